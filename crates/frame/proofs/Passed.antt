@@ -1,0 +1,96 @@
+-- What it says of bytes that no check of their reading applies, and what the reading then is. Assumes nothing.
+use mathlib.Core.Path.{_≡_, refl, sym, ap, _∙_}
+use mathlib.Core.Bool.{true}
+use mathlib.Core.List.{List}
+use Prim.Native.Nat.{ℕ, zero, suc, _+_, _-_, _*_, _^_, _≤_, _<_}
+use native.Mathlib.Nat.{le-of-eq, le-antisymm}
+use native.Mathlib.Omega.{arith}
+use lib.ListN.{length, drop, length-drop}
+use borrow.Author.Tests.{le-ltb, eq-eqb, ne-eqb, ltb-false, eqb-true, eqb-false, not-false}
+use Rattle.frame.specs.Message.{Message, maskOf, byPanel}
+use Rattle.frame.specs.Frame.{mark, versionOf}
+use Rattle.frame.specs.Refusal.{firstOf}
+use Rattle.frame.specs.Reading.{markIn, versionIn, sourceIn, deadlineIn, maskIn, countIn, entriesIn, lengthIn, payloadPlace, eachEarlier, checks, refusal, Reading, message, refused, messageIn, readAs, reading}
+use Rattle.frame.specs.Answer.{payloadOf, startOf}
+use Rattle.frame.proofs.FirstOf.{eachRefuses, applies-none}
+
+pub record Passed (width : ℕ) (bs : List ℕ) : Type 0 where
+  pub long : 19 ≤ length bs
+  pub mark : markIn bs ≡ mark
+  pub version : versionIn bs ≡ versionOf width
+  pub source : sourceIn bs ≤ 63
+  pub deadline : deadlineIn width bs ≡ 0 → ⊥
+  pub room : payloadPlace width bs ≤ length bs
+  pub entries : eachEarlier (deadlineIn width bs) (entriesIn width bs) ≡ true
+  pub payload : lengthIn width bs ≤ 32
+  pub whole : payloadPlace width bs + lengthIn width bs ≡ length bs
+
+pub passed-zero : (width : ℕ) (bs : List ℕ) → Passed width bs → refusal width bs ≡ 0
+unfolding checks firstOf
+passed-zero width bs p =
+    simp (
+      le-ltb _ _ (p .long),
+      eq-eqb _ _ (p .mark),
+      eq-eqb _ _ (p .version),
+      le-ltb _ _ (p .source),
+      ne-eqb _ _ (p .deadline),
+      le-ltb _ _ (p .room),
+      p .entries,
+      le-ltb _ _ (p .payload),
+      le-ltb _ _ (le-of-eq (p .whole)),
+      le-ltb _ _ (le-of-eq (sym (p .whole))),
+    )
+
+pub zero-passed : (width : ℕ) (bs : List ℕ) → refusal width bs ≡ 0 → Passed width bs
+unfolding checks eachRefuses
+zero-passed width bs e =
+    let passes = applies-none (checks width bs) refl e in
+    record {
+      long = ltb-false _ _ (passes 0);
+      mark = eqb-true _ _ (not-false _ (passes 1));
+      version = eqb-true _ _ (not-false _ (passes 2));
+      source = ltb-false _ _ (passes 3);
+      deadline = eqb-false _ _ (passes 4);
+      room = ltb-false _ _ (passes 5);
+      entries = not-false _ (passes 6);
+      payload = ltb-false _ _ (passes 7);
+      whole = le-antisymm (ltb-false _ _ (passes 8)) (ltb-false _ _ (passes 9));
+    }
+
+-- ---- the reading, by its refusal number
+
+pub reading-zero : (width : ℕ) (bs : List ℕ) → refusal width bs ≡ 0 → reading width bs ≡ message (messageIn width bs)
+unfolding reading
+reading-zero width bs e = rw e
+
+readAs-refused : (n : ℕ) (m : Message) → (n ≡ 0 → ⊥) → readAs n m ≡ refused n
+readAs-refused zero m h = absurd (h refl)
+readAs-refused (suc n) m h = refl
+
+pub reading-refused : (width : ℕ) (bs : List ℕ) → (refusal width bs ≡ 0 → ⊥) → reading width bs ≡ refused (refusal width bs)
+unfolding reading
+reading-refused width bs h = readAs-refused (refusal width bs) (messageIn width bs) h
+
+readAs-message : (n : ℕ) (m′ m : Message) → readAs n m′ ≡ message m → (n ≡ 0) × (m′ ≡ m)
+readAs-message zero m′ m e = (refl, cc)
+readAs-message (suc n) m′ m e = let z : _≡_ {A = ℕ} 0 1 = cc in absurd (omega arith)
+
+pub reading-message : (width : ℕ) (bs : List ℕ) (m : Message) → reading width bs ≡ message m → Passed width bs × (messageIn width bs ≡ m)
+unfolding reading
+reading-message width bs m e =
+    let r = readAs-message (refusal width bs) (messageIn width bs) m e in (zero-passed width bs (r .0), r .1)
+
+-- ---- the payload of bytes that pass
+
+module _ (width : ℕ) (bs : List ℕ) (p : Passed width bs) where
+  pub length-payload : length (messageIn width bs .payload) ≡ lengthIn width bs
+  unfolding messageIn
+  length-payload = rw length-drop (omega (arith, p .whole))
+
+  pub payload-passed : payloadOf (reading width bs) ≡ drop (payloadPlace width bs) bs
+  unfolding messageIn
+  payload-passed = rw (reading-zero width bs (passed-zero width bs p))
+
+  pub start-passed : startOf bs (reading width bs) ≡ payloadPlace width bs
+  unfolding messageIn
+  start-passed = rw (reading-zero width bs (passed-zero width bs p), length-drop) (omega (arith, p .room))

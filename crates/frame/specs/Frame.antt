@@ -1,0 +1,31 @@
+-- Document 01, "The frame": the bytes of a message's frame. The width is that of a deadline and of an entry in bytes: 4 in version 1.
+use Prim.Native.Nat.{ℕ, _/_}
+use mathlib.Core.List.{List, [], _∷_, flatten}
+use lib.ListN.{length}
+use Rattle.numbers.specs.Numbers.{bigEndian, bigEndians}
+use Rattle.frame.specs.Message.{Message, maskOf, present}
+
+-- mark, hexadecimal 44 52 59
+abbrev pub mark : ℕ
+mark = 0x445259
+
+-- the version whose deadlines have that width
+abbrev pub versionOf : ℕ → ℕ
+versionOf width = width / 4
+
+-- in order: mark, version, source, deadline, mask, entries, payload length, the payload
+unfoldable pub fields : ℕ → Message → List (List ℕ)
+fields width m =
+    bigEndian 3 mark
+    ∷ bigEndian 2 (versionOf width)
+    ∷ bigEndian 1 (m .source)
+    ∷ bigEndian width (m .deadline)
+    ∷ bigEndian 8 (maskOf (m .entries))
+    ∷ bigEndians width (present (m .entries))
+    ∷ bigEndian 1 (length (m .payload))
+    ∷ m .payload
+    ∷ []
+
+-- the frame: its fields one after another
+unfoldable pub frame : ℕ → Message → List ℕ
+frame width m = flatten (fields width m)

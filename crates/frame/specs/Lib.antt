@@ -1,0 +1,8 @@
+-- Document 01, "The frame", in its order: messages, their frames, what bytes read as, and what the calls answer.
+pub mod Message
+pub mod Frame
+pub mod Refusal
+pub mod Reading
+pub mod Readable
+pub mod Answer
+pub mod Written

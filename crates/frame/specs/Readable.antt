@@ -1,0 +1,23 @@
+-- Which messages have a frame: those that some readable frame carries (`RoundTrip` shows that these are the ones).
+use Prim.Native.Nat.{ℕ, _^_}
+use mathlib.Core.Bool.{Bool, true, _&&_}
+use mathlib.Core.List.{List, [], _∷_}
+use lib.ListN.{length}
+use lib.Dec.{ltb, leb, eqb}
+use Rattle.frame.specs.Message.{Message}
+
+-- each number of the list is below a limit
+unfoldable pub eachBelow : ℕ → List ℕ → Bool
+eachBelow limit [] = true
+eachBelow limit (n ∷ ns) = ltb n limit && eachBelow limit ns
+
+-- source 0 to 63; deadline at least 1, and within its width; 64 entries, each below the deadline; payload of 0 to 32 bytes
+unfoldable pub readable : ℕ → Message → Bool
+readable width m =
+    ltb (m .source) 64
+    && ltb 0 (m .deadline)
+    && ltb (m .deadline) (256 ^ width)
+    && eqb (length (m .entries)) 64
+    && eachBelow (m .deadline) (m .entries)
+    && leb (length (m .payload)) 32
+    && eachBelow 256 (m .payload)

@@ -1,0 +1,124 @@
+// Writing a frame into a lent buffer.
+use numbers::put_bytes;
+use numbers::put_number;
+ghost use mathlib.Core.Path.{_≡_};
+ghost use mathlib.Core.List.{_++_};
+ghost use Prim.Native.Nat.{_+_, _*_, _^_, _≤_, _<_};
+ghost use lib.ListN.{length};
+ghost use Rattle.numbers.specs.Numbers.{bigEndian, bigEndians};
+ghost use Rattle.numbers.specs.Buffer.{over};
+ghost use Rattle.frame.specs.Message.{messageOf, maskOf, present};
+ghost use Rattle.frame.specs.Frame.{mark};
+ghost use Rattle.frame.specs.Readable.{eachBelow};
+ghost use Rattle.frame.specs.Readable.{readable as isReadable};
+ghost use Rattle.frame.specs.Written.{written, writtenLength};
+
+// Whether each number is below the limit.
+fn each_below(numbers: &[u32], limit: u32) -> bool
+    ensures { λ r. ⌜ r ≡ eachBelow limit (now (numbers .entry)) ⌝ }
+{
+    let mut i = numbers.len();
+    while 0 < i {
+        i -= 1;
+        if limit <= numbers[i] {
+            return false;
+        }
+    }
+    true
+}
+
+// Whether the message has a frame.
+fn readable(source: u8, deadline: u32, entries: &[u32], payload: &[u8]) -> bool
+    requires { ⌜ length (now entries) ≡ 64 ⌝ }
+    ensures { λ r. ⌜ r ≡ isReadable 4 (messageOf source deadline (now (entries .entry)) (now (payload .entry))) ⌝ }
+{
+    if 63 < source {
+        return false;
+    }
+    if deadline == 0 {
+        return false;
+    }
+    if !each_below(entries, deadline) {
+        return false;
+    }
+    payload.len() <= 32
+}
+
+// The mask of the entries.
+fn mask_of(entries: &[u32]) -> u64
+    requires { ⌜ length (now entries) ≡ 64 ⌝ }
+    ensures { λ r. ⌜ r ≡ maskOf (now (entries .entry)) ⌝ }
+{
+    let mut mask: u64 = 0;
+    let mut panel = entries.len();
+    while 0 < panel {
+        panel -= 1;
+        mask = mask * 2;
+        if entries[panel] != 0 {
+            mask += 1;
+        }
+    }
+    mask
+}
+
+// Puts the fields up to the mask.
+fn put_head(buffer: &mut [u8], source: u8, deadline: u32, mask: u64)
+    requires { ⌜ 18 ≤ length (now buffer) ⌝ }
+    ensures { λ _. ⌜ now (buffer .exit) ≡ over (now (buffer .entry)) 0
+        (bigEndian 3 mark ++ bigEndian 2 1 ++ bigEndian 1 source ++ bigEndian 4 deadline ++ bigEndian 8 mask) ⌝ }
+{
+    put_number(buffer, 0, 3, 0x445259);
+    put_number(buffer, 3, 2, 1);
+    put_number(buffer, 5, 1, source as u64);
+    put_number(buffer, 6, 4, deadline as u64);
+    put_number(buffer, 10, 8, mask);
+}
+
+// Puts the entries of the panels that have one, lowest panel first.
+fn put_entries(buffer: &mut [u8], entries: &[u32])
+    requires { ⌜ 18 + 4 * length (present (now entries)) ≤ length (now buffer) ⌝ }
+    ensures { λ _. ⌜ now (buffer .exit) ≡ over (now (buffer .entry)) 18 (bigEndians 4 (present (now (entries .entry)))) ⌝ }
+{
+    let mut at = 18;
+    let mut panel = 0;
+    while panel < entries.len() {
+        let entry = entries[panel];
+        if entry != 0 {
+            put_number(buffer, at, 4, entry as u64);
+            at += 4;
+        }
+        panel += 1;
+    }
+}
+
+// Puts the payload's length and the payload.
+fn put_payload(buffer: &mut [u8], at: usize, payload: &[u8])
+    requires { ⌜ (length (now payload) ≤ 32) × (at + 1 + length (now payload) ≤ length (now buffer)) ⌝ }
+    ensures { λ _. ⌜ now (buffer .exit) ≡ over (now (buffer .entry)) at
+        (bigEndian 1 (length (now (payload .entry))) ++ now (payload .entry)) ⌝ }
+{
+    put_number(buffer, at, 1, payload.len() as u64);
+    put_bytes(buffer, at + 1, payload);
+}
+
+// Writes the message's frame at the start of the buffer, and answers its length. An entry of 0
+// stands for none. A message that has no frame, or too little room, is answered with 0 and changes
+// nothing.
+pub fn write(source: u8, deadline: u32, entries: [u32; 64], payload: &[u8], buffer: &mut [u8]) -> usize
+    ensures { λ r. ⌜ (r ≡ writtenLength 4 (messageOf source deadline entries (now (payload .entry))) (now (buffer .entry)))
+        × (now (buffer .exit) ≡ written 4 (messageOf source deadline entries (now (payload .entry))) (now (buffer .entry))) ⌝ }
+{
+    if !readable(source, deadline, &entries, payload) {
+        return 0;
+    }
+    let mask = mask_of(&entries);
+    let at = 18 + 4 * (u64::count_ones(mask) as usize);
+    let length = at + 1 + payload.len();
+    if buffer.len() < length {
+        return 0;
+    }
+    put_head(buffer, source, deadline, mask);
+    put_entries(buffer, &entries);
+    put_payload(buffer, at, payload);
+    length
+}

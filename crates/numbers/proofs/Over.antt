@@ -1,0 +1,43 @@
+-- Laws of `over`: bytes put into a buffer, one part behind another. Assumes nothing.
+use mathlib.Core.Path.{_≡_, refl, sym, ap, _∙_}
+use mathlib.Core.List.{List, [], _++_, append-assoc, append-nil}
+use Prim.Native.Nat.{ℕ, _+_, _≤_}
+use native.Mathlib.Nat.{add-zero}
+use native.Mathlib.Omega.{arith}
+use lib.ListN.{length, take, drop, length-append, length-take, length-drop, take-append-drop}
+use lib.Seq.{paste, take-at, drop-drop, take-length, drop-append-add}
+use Rattle.numbers.specs.Buffer.{over}
+
+-- nothing put
+pub over-nil : (buffer : List ℕ) (at : ℕ) → over buffer at [] ≡ buffer
+unfolding over
+over-nil buffer at = rw (append-nil, add-zero) (take-append-drop at buffer)
+
+pub length-over : (buffer : List ℕ) (at : ℕ) (bs : List ℕ) → at + length bs ≤ length buffer → length (over buffer at bs) ≡ length buffer
+unfolding over
+length-over buffer at bs h = simp (length-append, length-take, length-drop) (omega arith)
+
+-- a copy that a loop has finished
+pub over-paste : (buffer : List ℕ) (at : ℕ) (bs : List ℕ) (n : ℕ) → n ≡ length bs → paste buffer at bs n ≡ over buffer at bs
+unfolding over
+over-paste buffer at bs n e = rw (e, take-length)
+
+-- put one behind the other
+pub over-over : (buffer : List ℕ) (at : ℕ) (xs : List ℕ) (behind : ℕ) (ys : List ℕ) → behind ≡ at + length xs → behind + length ys ≤ length buffer
+    → over (over buffer at xs) behind ys ≡ over buffer at (xs ++ ys)
+unfolding over
+over-over buffer at xs behind ys e h =
+    let front : length (take at buffer ++ xs) ≡ behind = simp (length-append, length-take) (omega arith) in
+    let t : take behind (over buffer at xs) ≡ take at buffer ++ xs = take-at (take at buffer ++ xs) (drop (at + length xs) buffer) behind front in
+    let q : at + length xs + length ys ≡ at + length (xs ++ ys) = omega (arith, length-append xs ys) in
+    let d : drop (behind + length ys) (over buffer at xs) ≡ drop (at + length (xs ++ ys)) buffer =
+    ap (λ (k : ℕ). drop (k + length ys) (over buffer at xs)) (sym front)
+    ∙ drop-append-add (take at buffer ++ xs) (drop (at + length xs) buffer) (length ys)
+    ∙ drop-drop (length ys) (at + length xs) buffer
+    ∙ ap (λ (k : ℕ). drop k buffer) q in
+    rw (t, d, append-assoc (take at buffer) xs ys)
+
+-- what was put is there
+pub take-over : (buffer bs : List ℕ) → take (length bs) (over buffer 0 bs) ≡ bs
+unfolding over
+take-over buffer bs = take-at bs (drop (0 + length bs) buffer) (length bs) refl

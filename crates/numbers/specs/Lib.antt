@@ -1,0 +1,3 @@
+-- Numbers in bytes, and bytes put into a buffer.
+pub mod Numbers
+pub mod Buffer

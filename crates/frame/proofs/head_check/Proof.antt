@@ -1,0 +1,114 @@
+-- `frame::head_check` meets its contract: at each `return` the checks before it passed, and its own applies. Assumes nothing.
+use mathlib.Core.Path.{_≡_, refl, sym, ap}
+use mathlib.Core.Bool.{Bool, not}
+use mathlib.Core.List.{List}
+use Prim.Native.Nat.{ℕ}
+use borrow.Author.Needs.{needs}
+use borrow.Author.Tests.{lt-ltb, le-ltb, eq-eqb, ne-eqb}
+use native.Mathlib.Omega.{arith}
+use denote.Ref.{now}
+use lib.ListN.{take}
+use Rattle.numbers.proofs.NumberAt.{numberAt-one}
+use Rattle.frame.specs.Refusal.{firstOf}
+use Rattle.frame.specs.Frame.{mark}
+use Rattle.frame.specs.Reading.{markIn, versionIn, sourceIn, deadlineIn, checks}
+use Rattle.frame.proofs.FirstOf.{Past, pass, stop}
+use Rattle.frame.proofs.head_check.Statement.{statement}
+use Rattle.frame.proofs.head_check.Tie as tie
+
+-- the bytes, and the table of their checks
+abbrev bytes : tie.Start → List ℕ
+bytes c = now (c .args .frame)
+
+abbrev head : tie.Start → List (Bool × ℕ)
+head c = take 5 (checks 4 (bytes c))
+
+-- past the length, the mark, the version, the source and the deadline
+abbrev start1 : tie.Else1 → tie.Start
+start1 c = c .before .before
+
+past1 : (c : tie.Else1) → Past (head (start1 c)) 1
+unfolding checks
+past1 c = pass (head (start1 c)) 0 refl (le-ltb _ _ (c .if1 .left))
+
+abbrev start2 : tie.Else2 → tie.Start
+start2 c = start1 (c .before .before)
+
+past2 : (c : tie.Else2) → Past (head (start2 c)) 2
+unfolding checks
+past2 c = pass (head (start2 c)) 1 (past1 (c .before .before)) (ap not (eq-eqb (markIn (bytes (start2 c))) mark (omega (arith, c .before .number-at .ensures))))
+
+abbrev start3 : tie.Else3 → tie.Start
+start3 c = start2 (c .before .before)
+
+past3 : (c : tie.Else3) → Past (head (start3 c)) 3
+unfolding checks
+past3 c = pass (head (start3 c)) 2 (past2 (c .before .before)) (ap not (eq-eqb (versionIn (bytes (start3 c))) 1 (omega (arith, c .before .number-at2 .ensures))))
+
+abbrev start4 : tie.Else4 → tie.Start
+start4 c = start3 (c .before .before)
+
+past4 : (c : tie.Else4) → Past (head (start4 c)) 4
+unfolding checks
+past4 c = pass (head (start4 c)) 3 (past3 (c .before .before)) (le-ltb 63 (sourceIn (bytes (start4 c))) (omega (arith, numberAt-one (bytes (start4 c)) 5 (omega arith))))
+
+returns : tie.Need-returns
+unfolding checks
+returns c = stop (head (c .before .before)) 0 refl (lt-ltb _ _ (c .if1 .taken))
+
+number-at-requires : tie.Need-number-at-requires
+number-at-requires c κs = search needs
+
+returns-2 : tie.Need-returns-2
+unfolding checks
+returns-2 c =
+    stop (head (start1 (c .before .before))) 1 (past1 (c .before .before))
+    (ap not (ne-eqb (markIn (bytes (start1 (c .before .before)))) mark (omega (arith, c .before .number-at .ensures, c .if2 .taken))))
+
+number-at-requires-2 : tie.Need-number-at-requires-2
+number-at-requires-2 c κs = search needs
+
+returns-3 : tie.Need-returns-3
+unfolding checks
+returns-3 c =
+    stop (head (start2 (c .before .before))) 2 (past2 (c .before .before))
+    (ap not (ne-eqb (versionIn (bytes (start2 (c .before .before)))) 1 (omega (arith, c .before .number-at2 .ensures, c .if3 .taken))))
+
+shared-slice-read-if4 : tie.Need-shared-slice-read-if4
+shared-slice-read-if4 c = search needs
+
+returns-4 : tie.Need-returns-4
+unfolding checks
+returns-4 c =
+    stop (head (start3 (c .before .before))) 3 (past3 (c .before .before))
+    (lt-ltb 63 (sourceIn (bytes (start3 (c .before .before)))) (omega (arith, numberAt-one (bytes (start3 (c .before .before))) 5 (omega arith))))
+
+number-at-requires-3 : tie.Need-number-at-requires-3
+number-at-requires-3 c κs = search needs
+
+returns-5 : tie.Need-returns-5
+unfolding checks
+returns-5 c =
+    stop (head (start4 (c .before .before))) 4 (past4 (c .before .before)) (eq-eqb (deadlineIn 4 (bytes (start4 (c .before .before)))) 0 (omega (arith, c .before .number-at3 .ensures)))
+
+returns-6 : tie.Need-returns-6
+unfolding checks firstOf
+returns-6 c =
+    sym
+    (pass (head (start4 (c .before .before))) 4 (past4 (c .before .before))
+    (ne-eqb (deadlineIn 4 (bytes (start4 (c .before .before)))) 0 (omega (arith, c .before .number-at3 .ensures, c .if5 .left))))
+
+pub head-check-spec : {M : Type 1} → statement M
+head-check-spec =
+    tie.close
+    (tie.spec
+    returns
+    number-at-requires
+    returns-2
+    number-at-requires-2
+    returns-3
+    shared-slice-read-if4
+    returns-4
+    number-at-requires-3
+    returns-5
+    returns-6)

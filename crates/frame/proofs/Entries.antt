@@ -5,11 +5,12 @@ use mathlib.Core.Logic.{_⊎_, inl, inr, ⊎-elim}
 use mathlib.Core.List.{List, [], _∷_, _++_, append-nil}
 use Prim.Native.Nat.{ℕ, zero, suc, _+_, _-_, _*_, _/_, _%_, _^_, _≤_, _<_}
 use native.Mathlib.Nat.{pow-suc, zero-add, zero-mul, one-mul, eq-zero-or-pos}
-use native.Mathlib.Numerals.{one-add, add-one}
+use native.Mathlib.Numerals.{one-add, add-one, sub-one}
 use native.Mathlib.Omega.{arith}
 use lib.Arith.{lt-one}
-use lib.ListN.{length, getD, take, drop, length-append, take-append-drop}
-use lib.Seq.{getD-drop, take-suc}
+use lib.ListN.{length, getD, take, drop, length-append, length-drop, take-append-drop, drop-of-length-le}
+use lib.Pow.{pow-mono}
+use lib.Seq.{getD-drop, take-suc, drop-cons}
 use lib.Count.{onesIn, ones, ones-step}
 use borrow.Author.Tests.{lt-ltb}
 use Rattle.frame.specs.Message.{bit, maskOf, present, byPanel}
@@ -58,6 +59,36 @@ pub ones-maskOf : (es : List ℕ) → length es ≡ 64 → ones (maskOf es) ≡ 
 ones-maskOf es e =
     sym (onesIn-ones 64 (maskOf es) (maskOf-fits es e))
     ∙ subst (λ (n : ℕ). onesIn n (maskOf es) ≡ length (present es)) e (onesIn-maskOf es)
+
+-- ---- the mask of the entries from s on, as a loop goes down
+
+bit-none : (e : ℕ) → e ≡ 0 → bit e ≡ 0
+bit-none e z = ap bit z
+
+bit-entry : (e : ℕ) → (e ≡ 0 → ⊥) → bit e ≡ 1
+bit-entry zero h = absurd (h refl)
+bit-entry (suc e) h = refl
+
+pub maskOf-none : (es : List ℕ) (s : ℕ) → length es ≤ s → maskOf (drop s es) ≡ 0
+unfolding maskOf
+maskOf-none es s h = rw (drop-of-length-le es h)
+
+maskOf-drop : (es : List ℕ) (s : ℕ) → 0 < s → s ≤ length es → maskOf (drop (s - 1) es) ≡ bit (getD es (s - 1) 0) + 2 * maskOf (drop s es)
+unfolding maskOf
+maskOf-drop es zero pos h = absurd (omega arith)
+maskOf-drop es (suc s) pos h = rw (sub-one, drop-cons es s 0 h)
+
+module _ (es : List ℕ) (s : ℕ) (pos : 0 < s) (h : s ≤ length es) where
+  pub maskOf-drop-none : getD es (s - 1) 0 ≡ 0 → maskOf (drop (s - 1) es) ≡ 2 * maskOf (drop s es)
+  maskOf-drop-none z = omega (arith, maskOf-drop es s pos h, bit-none (getD es (s - 1) 0) z)
+
+  pub maskOf-drop-entry : (getD es (s - 1) 0 ≡ 0 → ⊥) → maskOf (drop (s - 1) es) ≡ 2 * maskOf (drop s es) + 1
+  maskOf-drop-entry z = omega (arith, maskOf-drop es s pos h, bit-entry (getD es (s - 1) 0) z)
+
+  -- one bit more still fits 64 bits
+  pub maskOf-drop-lt : length es ≡ 64 → maskOf (drop s es) * 2 + 1 < 2 ^ 64
+  maskOf-drop-lt e =
+      let l : length (drop s es) ≤ 63 = rw length-drop (omega arith) in omega (arith, maskOf-lt (drop s es), pow-mono l)
 
 -- ---- apart and together again
 

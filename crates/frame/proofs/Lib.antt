@@ -6,5 +6,6 @@ pub mod Entries
 pub mod Readable
 pub mod Passed
 pub mod Places
+pub mod Written
 pub mod RoundTrip
 pub mod Panels

@@ -1,0 +1,40 @@
+-- `frame::writing::put_payload` meets its contract: the payload goes behind its length. Assumes nothing.
+use mathlib.Core.Path.{_≡_, ap, _∙_}
+use mathlib.Core.List.{List}
+use Prim.Native.Nat.{ℕ, _+_}
+use borrow.Author.Needs.{needs}
+use native.Mathlib.Omega.{arith}
+use denote.Ref.{now}
+use lib.ListN.{length}
+use Rattle.numbers.specs.Numbers.{bigEndian}
+use Rattle.numbers.specs.Buffer.{over}
+use Rattle.numbers.proofs.BigEndian.{length-bigEndian}
+use Rattle.numbers.proofs.Over.{over-over}
+use Rattle.frame.proofs.writing.put_payload.Statement.{statement}
+use Rattle.frame.proofs.writing.put_payload.Tie as tie
+
+put-number-requires : tie.Need-put-number-requires
+put-number-requires c κs = search needs
+
+add-put-bytes : tie.Need-add-put-bytes
+add-put-bytes c = search needs
+
+put-bytes-requires : tie.Need-put-bytes-requires
+put-bytes-requires c κs = search needs
+
+same-length : tie.Need-same-length
+same-length c = search needs
+
+returns : tie.Need-returns
+returns c =
+    let number = c .before .before .before .before .before .before in
+    let start = number .before .before .before .before in
+    let a = start .args in
+    let size = bigEndian 1 (length (now (a .payload))) in
+    let one = length-bigEndian 1 (length (now (a .payload))) in
+    c .before .before .put-bytes .ensures
+    ∙ ap (λ (l : List ℕ). over l (a .at + 1) (now (a .payload))) (number .put-number .ensures)
+    ∙ over-over (now (a .buffer)) (a .at) size (a .at + 1) (now (a .payload)) (omega arith) (start .pre .1)
+
+pub put-payload-spec : {M : Type 1} → statement M
+put-payload-spec = tie.close (tie.spec put-number-requires add-put-bytes put-bytes-requires same-length returns)

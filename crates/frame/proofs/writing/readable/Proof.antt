@@ -1,0 +1,40 @@
+-- `frame::writing::readable` meets its contract: at each `return` the tests so far say whether the message has a frame. Assumes nothing.
+use mathlib.Core.Path.{_≡_, sym, _∙_}
+use borrow.Author.Needs.{needs}
+use borrow.Author.Tests.{not-true, not-false}
+use native.Mathlib.Omega.{arith}
+use denote.Ref.{now}
+use Rattle.frame.specs.Message.{Message, messageOf}
+use Rattle.frame.proofs.Readable.{readable-source, readable-deadline, readable-entries, readable-payload}
+use Rattle.frame.proofs.writing.readable.Statement.{statement}
+use Rattle.frame.proofs.writing.readable.Tie as tie
+
+abbrev message : tie.Start → Message
+message c = messageOf (c .args .source) (c .args .deadline) (now (c .args .entries)) (now (c .args .payload))
+
+returns : tie.Need-returns
+returns c = sym (readable-source 4 (message (c .before .before .before)) (c .if1 .taken))
+
+returns-2 : tie.Need-returns-2
+returns-2 c = sym (readable-deadline 4 (message (c .before .before .before .before)) (c .if2 .taken))
+
+each-below-requires : tie.Need-each-below-requires
+each-below-requires c κs = search needs
+
+returns-3 : tie.Need-returns-3
+returns-3 c =
+    sym
+    (readable-entries 4 (message (c .before .before .before .before .before .before))
+    (sym (c .before .each-below .ensures) ∙ not-true _ (c .if3 .taken)))
+
+returns-4 : tie.Need-returns-4
+returns-4 c =
+    let past2 = c .before .before in
+    let known = past2 .before .before in
+    let start = known .before .before in
+    readable-payload 4 (message start) (past2 .before .if1 .left) (past2 .if2 .left) (omega arith) (start .pre)
+    (sym (c .before .each-below .ensures) ∙ not-false _ (c .if3 .left))
+    (λ i. omega (arith, known .shared-slice-known2 .given i))
+
+pub readable-spec : {M : Type 1} → statement M
+readable-spec = tie.close (tie.spec returns returns-2 each-below-requires returns-3 returns-4)

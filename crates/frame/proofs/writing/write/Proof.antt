@@ -1,0 +1,164 @@
+-- `frame::writing::write` meets its contract: the frame is written where the message has one and the buffer room for it. Assumes nothing.
+use mathlib.Core.Path.{_≡_, sym, ap, _∙_}
+use mathlib.Core.Bool.{true}
+use mathlib.Core.List.{List, _++_}
+use Prim.Native.Nat.{ℕ, _+_, _*_, _≤_}
+use borrow.Author.Needs.{needs}
+use borrow.Author.Tests.{not-true, not-false}
+use native.Mathlib.Omega.{arith}
+use denote.Ref.{now}
+use lib.Count.{ones, ones-le}
+use lib.ListN.{length}
+use Rattle.numbers.specs.Numbers.{bigEndian}
+use Rattle.numbers.specs.Buffer.{over}
+use Rattle.frame.specs.Message.{Message, messageOf, present}
+use Rattle.frame.specs.Frame.{mark, frame}
+use Rattle.frame.specs.Readable.{readable}
+use Rattle.frame.proofs.Entries.{maskOf-fits, ones-maskOf}
+use Rattle.frame.proofs.Readable.{Readable, true-readable}
+use Rattle.frame.proofs.Places.{length-frame}
+use Rattle.frame.proofs.Written.{head, body, tail, written-unreadable, written-short, written-frame, over-frame}
+use Rattle.frame.proofs.writing.write.Statement.{statement}
+use Rattle.frame.proofs.writing.write.Tie as tie
+
+abbrev message : tie.Start → Message
+message c = messageOf (c .args .source) (c .args .deadline) (c .args .t3) (now (c .args .payload))
+
+-- ---- the message has a frame
+
+abbrev start : tie.After-mask-of → tie.Start
+start c = c .before .before .before .before .before .before .before
+
+has-frame : (c : tie.After-mask-of) → readable 4 (message (start c)) ≡ true
+has-frame c = let past = c .before .before in sym (past .before .readable .ensures) ∙ not-false _ (past .if1 .left)
+
+panels : (c : tie.After-mask-of) → length (start c .args .t3) ≡ 64
+panels c = search needs
+
+few : (c : tie.After-mask-of) → ones (c .mask-of .result) ≤ 64
+few c = ones-le 64 (c .mask-of .result) (omega (arith, c .mask-of .ensures, maskOf-fits (start c .args .t3) (panels c)))
+
+counted : (c : tie.After-mask-of) → ones (c .mask-of .result) ≡ length (present (start c .args .t3))
+counted c = ap ones (c .mask-of .ensures) ∙ ones-maskOf (start c .args .t3) (panels c)
+
+sized : (c : tie.After-mask-of) → 18 + 4 * ones (c .mask-of .result) + 1 + length (now (start c .args .payload)) ≡ length (frame 4 (message (start c)))
+sized c = omega (arith, counted c, length-frame 4 (message (start c)))
+
+slice-aggregate-readable : tie.Need-slice-aggregate-readable
+slice-aggregate-readable c = search needs
+
+readable-requires : tie.Need-readable-requires
+readable-requires c κs = search needs
+
+returns : tie.Need-returns
+returns c =
+    let s = c .before .before .before .before .before in
+    written-unreadable 4 (message s) (now (s .args .buffer)) (sym (c .before .readable .ensures) ∙ not-true _ (c .if1 .taken))
+
+slice-aggregate-mask-of : tie.Need-slice-aggregate-mask-of
+slice-aggregate-mask-of c = search needs
+
+mask-of-requires : tie.Need-mask-of-requires
+mask-of-requires c κs = search needs
+
+cast-at : tie.Need-cast-at
+cast-at c = omega (arith, few c)
+
+mul-at : tie.Need-mul-at
+mul-at c = omega (arith, few c)
+
+add-at : tie.Need-add-at
+add-at c = omega (arith, few c)
+
+add-length : tie.Need-add-length
+add-length c = omega (arith, few c)
+
+add-length-2 : tie.Need-add-length-2
+add-length-2 c = omega (arith, few c, true-readable 4 (message (start c)) (has-frame c) .payload)
+
+returns-2 : tie.Need-returns-2
+returns-2 c =
+    let s = start (c .before) in
+    written-short 4 (message s) (now (s .args .buffer)) (omega (arith, sized (c .before), c .if2 .taken))
+
+-- ---- the buffer has room for it
+
+room : (c : tie.Else2) → length (frame 4 (message (start (c .before)))) ≤ length (now (start (c .before) .args .buffer))
+room c = omega (arith, sized (c .before), c .if2 .left)
+
+put-head-requires : tie.Need-put-head-requires
+put-head-requires c κs = omega (arith, room (c .before), sized (c .before .before))
+
+headed : (c : tie.After-put-head) → c .put-head .last .0
+    ≡ over (now (start (c .before .before .before) .args .buffer)) 0 (head 4 (message (start (c .before .before .before))))
+headed c =
+    let s = start (c .before .before .before) in
+    c .put-head .ensures
+    ∙ ap
+    (λ (mask : ℕ). over (now (s .args .buffer)) 0
+    (bigEndian 3 mark ++ bigEndian 2 1 ++ bigEndian 1 (s .args .source) ++ bigEndian 4 (s .args .deadline) ++ bigEndian 8 mask))
+    (c .before .before .before .mask-of .ensures)
+
+slice-aggregate-put-entries : tie.Need-slice-aggregate-put-entries
+slice-aggregate-put-entries c = search needs
+
+abbrev fits2 : tie.After-slice-known2 → tie.Else2
+fits2 c = c .before .before .before .before
+
+put-entries-requires : tie.Need-put-entries-requires
+put-entries-requires c κs =
+    let past = fits2 (c .before .before) in
+    omega (arith, room past, sized (past .before), counted (past .before))
+
+abbrev fits3 : tie.After-slice-known3 → tie.Else2
+fits3 c = fits2 (c .before .before .before .before .before)
+
+put-payload-requires : tie.Need-put-payload-requires
+put-payload-requires c κs =
+    let past = fits3 (c .before) in
+    let m = message (start (past .before)) in
+    (true-readable 4 m (has-frame (past .before)) .payload, omega (arith, room past, sized (past .before)))
+
+same-length : tie.Need-same-length
+same-length c = search needs
+
+returns-3 : tie.Need-returns-3
+returns-3 c =
+    let put3 = c .before .before in
+    let put2 = put3 .before .before .before .before in
+    let put1 = put2 .before .before .before .before .before in
+    let past = put1 .before .before in
+    let s = start (past .before) in
+    let m = message s in
+    let buffer = now (s .args .buffer) in
+    let at = 18 + 4 * ones (past .before .mask-of .result) in
+    let w = written-frame 4 m buffer (has-frame (past .before)) (room past) in (
+      sized (past .before) ∙ w .0,
+      put3 .put-payload .ensures
+      ∙ ap (λ (l : List ℕ). over l at (tail m)) (put2 .put-entries .ensures)
+      ∙ ap (λ (l : List ℕ). over (over l 18 (body 4 m)) at (tail m)) (headed put1)
+      ∙ over-frame 4 m buffer at (room past) (omega (arith, counted (past .before)))
+      ∙ w .1,
+    )
+
+pub write-spec : {M : Type 1} → statement M
+write-spec =
+    tie.close
+    (tie.spec
+    slice-aggregate-readable
+    readable-requires
+    returns
+    slice-aggregate-mask-of
+    mask-of-requires
+    cast-at
+    mul-at
+    add-at
+    add-length
+    add-length-2
+    returns-2
+    put-head-requires
+    slice-aggregate-put-entries
+    put-entries-requires
+    put-payload-requires
+    same-length
+    returns-3)

@@ -2,8 +2,8 @@
 // document 01's order. No public function asks anything of its caller.
 mod writing;
 
-pub use writing::write;
 use numbers::number_at;
+pub use writing::write;
 ghost use mathlib.Core.Path.{_≡_};
 ghost use Prim.Native.Nat.{_+_, _*_, _≤_};
 ghost use lib.Count.{onesIn};

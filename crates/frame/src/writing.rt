@@ -104,7 +104,13 @@ fn put_payload(buffer: &mut [u8], at: usize, payload: &[u8])
 // Writes the message's frame at the start of the buffer, and answers its length. An entry of 0
 // stands for none. A message that has no frame, or too little room, is answered with 0 and changes
 // nothing.
-pub fn write(source: u8, deadline: u32, entries: [u32; 64], payload: &[u8], buffer: &mut [u8]) -> usize
+pub fn write(
+    source: u8,
+    deadline: u32,
+    entries: [u32; 64],
+    payload: &[u8],
+    buffer: &mut [u8],
+) -> usize
     ensures { λ r. ⌜ (r ≡ writtenLength 4 (messageOf source deadline entries (now (payload .entry))) (now (buffer .entry)))
         × (now (buffer .exit) ≡ written 4 (messageOf source deadline entries (now (payload .entry))) (now (buffer .entry))) ⌝ }
 {

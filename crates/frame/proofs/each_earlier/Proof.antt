@@ -48,7 +48,7 @@ loop-again c =
     let read = c .before .before .number-at .ensures in (
       omega arith,
       l .inv .1
-      ∙ eachEarlier-next _ _ (l .at) 4 (l .left) (omega arith) (omega (arith, read, c .before .if1 .left)) (omega (arith, read)),
+          ∙ eachEarlier-next _ _ (l .at) 4 (l .left) (omega arith) (omega (arith, read, c .before .if1 .left)) (omega (arith, read)),
     )
 
 returns-3 : tie.Need-returns-3 Inv-loop μ-loop

@@ -1,6 +1,5 @@
 -- `frame::entries_by_panel` meets its contract. Its loop's invariant is `Filled`: the entries of the panels so far are laid. Assumes nothing.
 mod Filling
-
 use mathlib.Core.Path.{_≡_}
 use mathlib.Core.Logic.{⊎-elim}
 use Prim.Native.Nat.{ℕ, _-_}

@@ -1,7 +1,6 @@
 -- `frame::writing::put_entries` meets its contract. Its loop's invariant is `Put`: the entries of the panels so far are in the buffer.
 -- Assumes nothing.
 mod Putting
-
 use mathlib.Core.Path.{_≡_, _∙_}
 use mathlib.Core.Logic.{⊎-elim}
 use Prim.Native.Nat.{ℕ, _-_, _<_}

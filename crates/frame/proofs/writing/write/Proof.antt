@@ -135,10 +135,10 @@ returns-3 c =
     let w = written-frame 4 m buffer (has-frame (past .before)) (room past) in (
       sized (past .before) ∙ w .0,
       put3 .put-payload .ensures
-      ∙ ap (λ (l : List ℕ). over l at (tail m)) (put2 .put-entries .ensures)
-      ∙ ap (λ (l : List ℕ). over (over l 18 (body 4 m)) at (tail m)) (headed put1)
-      ∙ over-frame 4 m buffer at (room past) (omega (arith, counted (past .before)))
-      ∙ w .1,
+          ∙ ap (λ (l : List ℕ). over l at (tail m)) (put2 .put-entries .ensures)
+          ∙ ap (λ (l : List ℕ). over (over l 18 (body 4 m)) at (tail m)) (headed put1)
+          ∙ over-frame 4 m buffer at (room past) (omega (arith, counted (past .before)))
+          ∙ w .1,
     )
 
 pub write-spec : {M : Type 1} → statement M

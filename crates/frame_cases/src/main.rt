@@ -1,0 +1,160 @@
+// Prints frames that can be compared with document 01 by eye: those of bench cases 1 and 2, the
+// reading of one more, the number that each damage to it is answered with, and what is not written.
+// The file stdout beside src/ is what it must print.
+
+// The first n bytes, or none where there are fewer.
+fn first(bytes: &[u8], n: usize) -> &[u8] {
+    if n <= bytes.len() {
+        &bytes[0..n]
+    } else {
+        &bytes[0..0]
+    }
+}
+
+fn print(text: &[u8]) {
+    io::write_all(1, text);
+}
+
+fn print_item(label: &[u8], number: u64) {
+    io::write_all(1, label);
+    io::print_decimal(1, number);
+}
+
+fn wide(byte: u8) -> u64 {
+    byte as u64
+}
+
+fn entry(entries: [u32; 64], panel: usize) -> u32 {
+    if panel < 64 { entries[panel] } else { 0 }
+}
+
+// Two hexadecimal digits for each byte.
+fn print_bytes(bytes: &[u8]) {
+    for i in 0..bytes.len() {
+        io::print_hex(1, wide(bytes[i]), 2);
+    }
+}
+
+// A line that ends with the bytes.
+fn print_line(label: &[u8], bytes: &[u8]) {
+    print(label);
+    print_bytes(bytes);
+    print(b"\n");
+}
+
+// A line of the frame's length and its bytes.
+fn print_frame(label: &[u8], frame: &[u8]) {
+    print_item(label, frame.len() as u64);
+    print_line(b" bytes ", frame);
+}
+
+// A line of the number that the frame check answers.
+fn print_check(label: &[u8], frame: &[u8]) {
+    print_item(label, frame::frame_check(frame) as u64);
+    print(b"\n");
+}
+
+// The bytes with another one at one place.
+fn damaged(bytes: [u8; 40], at: usize, byte: u8) -> [u8; 40] {
+    let mut damaged = bytes;
+    if at < 40 {
+        damaged[at] = byte;
+    }
+    damaged
+}
+
+// The same for the frame of 26 bytes with another byte at one place.
+fn print_damage(label: &[u8], frame: [u8; 40], at: usize, byte: u8) {
+    let bytes = damaged(frame, at, byte);
+    print_check(label, first(&bytes, 26));
+}
+
+// A line of the fields that a reading gives, and of the payload.
+fn print_reading(frame: &[u8]) {
+    let fields = frame::read(frame);
+    let entries = fields.entries;
+    print_item(b"read: refusal ", fields.refusal as u64);
+    print_item(b", source ", fields.source as u64);
+    print_item(b", deadline ", fields.deadline as u64);
+    print_item(b", mask ", fields.mask);
+    print_item(b", entry of panel 3 ", entry(entries, 3) as u64);
+    print_item(b", payload length ", fields.payload_length as u64);
+    print_line(b", payload:", frame::payload(frame));
+}
+
+// A line of the length that a write answers, and of the first byte of the buffer, which was 07.
+fn print_write(label: &[u8], source: u8, deadline: u32, payload: &[u8], buffer: &mut [u8]) {
+    let mut entries = [0u32; 64];
+    entries[3] = 4;
+    let length = frame::write(source, deadline, entries, payload, buffer);
+    print_item(label, length as u64);
+    print_line(b", first byte ", first(buffer, 1));
+}
+
+fn print_cases() {
+    let mut entries = [0u32; 64];
+    let mut frame = [0u8; 40];
+    let case_1 = frame::write(3, 1300, entries, b"OK", &mut frame);
+    print_frame(b"case 1: ", first(&frame, case_1));
+    entries[3] = 1300;
+    let case_2 = frame::write(3, 1301, entries, b"", &mut frame);
+    print_frame(b"case 2: ", first(&frame, case_2));
+}
+
+// A frame of 26 bytes, with 14 zeros behind it.
+fn small_frame() -> [u8; 40] {
+    let mut entries = [0u32; 64];
+    entries[3] = 4;
+    let mut frame = [0u8; 40];
+    frame::write(3, 9, entries, b"dry", &mut frame);
+    frame
+}
+
+fn print_lengths(frame: [u8; 40]) {
+    print_check(b"undamaged: ", first(&frame, 26));
+    print_check(b"empty bytes: ", b"");
+    print_check(b"18 bytes: ", first(&frame, 18));
+    print_check(b"payload cut: ", first(&frame, 25));
+    print_check(b"bytes left over: ", first(&frame, 27));
+}
+
+fn print_damages(frame: [u8; 40]) {
+    print_damage(b"mark: ", frame, 1, 0);
+    print_damage(b"version 2: ", frame, 4, 2);
+    print_damage(b"source 64: ", frame, 5, 64);
+    print_damage(b"deadline 0: ", frame, 9, 0);
+    print_damage(b"entries missing: ", frame, 17, 255);
+    print_damage(b"entry 0: ", frame, 21, 0);
+    print_damage(b"entry equal to the deadline: ", frame, 21, 9);
+    print_damage(b"payload of 33: ", frame, 22, 33);
+}
+
+fn print_writes() {
+    let mut exact = [7u8; 26];
+    print_write(b"write into 26 bytes: ", 3, 9, b"dry", &mut exact);
+    let mut short = [7u8; 25];
+    print_write(b"write into 25 bytes: ", 3, 9, b"dry", &mut short);
+    let mut buffer = [7u8; 64];
+    print_write(b"write source 64: ", 64, 9, b"dry", &mut buffer);
+    print_write(b"write deadline 0: ", 3, 0, b"dry", &mut buffer);
+    print_write(
+        b"write entry equal to the deadline: ",
+        3,
+        4,
+        b"dry",
+        &mut buffer,
+    );
+    let long = [0u8; 33];
+    print_write(b"write payload of 33: ", 3, 9, &long, &mut buffer);
+}
+
+fn main() {
+    print_cases();
+    let frame = small_frame();
+    print_frame(b"frame: ", first(&frame, 26));
+    print_reading(first(&frame, 26));
+    print_reading(b"");
+    print_lengths(frame);
+    print_damages(frame);
+    print_writes();
+}

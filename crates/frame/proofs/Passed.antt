@@ -1,17 +1,24 @@
--- What it says of bytes that no check of their reading applies, and what the reading then is. Assumes nothing.
-use mathlib.Core.Path.{_≡_, refl, sym, ap, _∙_}
+-- Bytes to which no check applies: what that says of them, what they read as, and that they are the frame of that message. Assumes nothing.
+use mathlib.Core.Path.{_≡_, refl, sym}
 use mathlib.Core.Bool.{true}
-use mathlib.Core.List.{List}
-use Prim.Native.Nat.{ℕ, zero, suc, _+_, _-_, _*_, _^_, _≤_, _<_}
+use mathlib.Core.List.{List, _++_, flatten, append-nil}
+use Prim.Native.Nat.{ℕ, zero, suc, _+_, _*_, _≤_, _<_}
 use native.Mathlib.Nat.{le-of-eq, le-antisymm}
 use native.Mathlib.Omega.{arith}
-use lib.ListN.{length, drop, length-drop}
+use lib.ListN.{length, take, drop, length-drop, take-append-drop}
+use lib.Seq.{drop-drop}
 use borrow.Author.Tests.{le-ltb, eq-eqb, ne-eqb, ltb-false, eqb-true, eqb-false, not-false}
-use Rattle.frame.specs.Message.{Message, maskOf, byPanel}
-use Rattle.frame.specs.Frame.{mark, versionOf}
+use Rattle.numbers.specs.Numbers.{Bytes}
+use Rattle.numbers.proofs.Bytes.{Bytes-drop}
+use Rattle.numbers.proofs.NumberAt.{bigEndian-numberAt, numberAt-lt, bigEndians-numbersAt, length-numbersAt}
+use Rattle.frame.specs.Message.{Message, maskOf, present}
+use Rattle.frame.specs.Frame.{mark, versionOf, fields, frame}
 use Rattle.frame.specs.Refusal.{firstOf}
-use Rattle.frame.specs.Reading.{markIn, versionIn, sourceIn, deadlineIn, maskIn, countIn, entriesIn, lengthIn, payloadPlace, eachEarlier, checks, refusal, Reading, message, refused, messageIn, readAs, reading}
+use Rattle.frame.specs.Reading.{markIn, versionIn, sourceIn, deadlineIn, maskIn, countIn, entriesIn, lengthIn, payloadPlace, eachEarlier, checks, refusal, message, refused, messageIn, readAs, reading}
 use Rattle.frame.specs.Answer.{payloadOf, startOf}
+use Rattle.frame.proofs.EachNumber.{eachEarlier-pos, eachEarlier-lt}
+use Rattle.frame.proofs.Entries.{length-byPanel, present-byPanel, byPanel-lt}
+use Rattle.frame.proofs.Readable.{Readable}
 use Rattle.frame.proofs.FirstOf.{eachRefuses, applies-none}
 
 pub record Passed (width : ℕ) (bs : List ℕ) : Type 0 where
@@ -94,3 +101,64 @@ module _ (width : ℕ) (bs : List ℕ) (p : Passed width bs) where
   pub start-passed : startOf bs (reading width bs) ≡ payloadPlace width bs
   unfolding messageIn
   start-passed = rw (reading-zero width bs (passed-zero width bs p), length-drop) (omega (arith, p .room))
+
+-- ---- bytes that pass are the frame of their message
+
+module _ (width : ℕ) (bs : List ℕ) (b : Bytes bs) (p : Passed width bs) where
+  apart : (present (messageIn width bs .entries) ≡ entriesIn width bs) × (maskOf (messageIn width bs .entries) ≡ maskIn width bs)
+  unfolding messageIn
+  apart =
+      present-byPanel 64 (maskIn width bs) (entriesIn width bs) (numberAt-lt bs (6 + width) 8 b (omega (arith, p .room)))
+      (sym (length-numbersAt bs (14 + width) width (countIn width bs)))
+      (eachEarlier-pos _ _ (p .entries))
+
+  -- the mask of bytes that pass is that of their message's entries
+  pub maskOf-passed : maskOf (messageIn width bs .entries) ≡ maskIn width bs
+  maskOf-passed = apart .1
+
+  pub passed-readable : Readable width (messageIn width bs)
+  unfolding messageIn
+  passed-readable =
+      let pos : 0 < deadlineIn width bs = omega (arith, p .deadline) in
+      record {
+        source = omega (arith, p .source);
+        deadline = pos;
+        fits = numberAt-lt bs 6 width b (omega (arith, p .room));
+        panels = length-byPanel 64 (maskIn width bs) (entriesIn width bs);
+        entries = byPanel-lt _ 64 (maskIn width bs) (entriesIn width bs) pos (eachEarlier-lt _ (entriesIn width bs) pos (p .entries));
+        payload = rw length-drop (omega (arith, p .payload, p .whole));
+        bytes = Bytes-drop (payloadPlace width bs) bs b;
+      }
+
+  -- a part and what stands behind it
+  rejoin : (at n : ℕ) {behind : ℕ} → at + n ≡ behind → take n (drop at bs) ++ drop behind bs ≡ drop at bs
+  rejoin at n e = rw (← e, ← drop-drop n at bs) (take-append-drop n (drop at bs))
+
+  pub passed-frame : frame width (messageIn width bs) ≡ bs
+  unfolding frame fields flatten messageIn
+  passed-frame =
+      let n = countIn width bs in
+      let room = p .room in
+      let size : length (drop (payloadPlace width bs) bs) ≡ lengthIn width bs = rw length-drop (omega (arith, p .whole)) in
+      rw (
+        append-nil,
+        apart .1,
+        apart .0,
+        ← p .mark,
+        ← p .version,
+        size,
+        bigEndian-numberAt bs 0 3 b (omega arith),
+        bigEndian-numberAt bs 3 2 b (omega arith),
+        bigEndian-numberAt bs 5 1 b (omega arith),
+        bigEndian-numberAt bs 6 width b (omega arith),
+        bigEndian-numberAt bs (6 + width) 8 b (omega arith),
+        bigEndians-numbersAt bs (14 + width) width n b (omega arith),
+        bigEndian-numberAt bs (14 + width + width * n) 1 b (omega arith),
+        rejoin (14 + width + width * n) 1 {behind = 15 + width + width * n} (omega arith),
+        rejoin (14 + width) (width * n) {behind = 14 + width + width * n} refl,
+        rejoin (6 + width) 8 {behind = 14 + width} (omega arith),
+        rejoin 6 width {behind = 6 + width} refl,
+        rejoin 5 1 {behind = 6} refl,
+        rejoin 3 2 {behind = 5} refl,
+        take-append-drop,
+      )

@@ -1,7 +1,7 @@
--- The fields of a frame stand at the places where the reading looks for them. Assumes nothing.
-use mathlib.Core.Path.{_≡_, refl, sym, ap, _∙_, subst}
-use mathlib.Core.List.{List, [], _∷_, _++_, flatten, append-nil}
-use Prim.Native.Nat.{ℕ, zero, suc, _+_, _*_, _/_, _^_, _≤_, _<_}
+-- The fields of a frame stand at the places where the reading looks for them, so that it finds the message. Assumes nothing.
+use mathlib.Core.Path.{_≡_, refl, ap, _∙_, subst}
+use mathlib.Core.List.{List, [], _∷_, flatten, append-nil}
+use Prim.Native.Nat.{ℕ, zero, suc, _+_, _*_, _^_, _≤_, _<_}
 use native.Mathlib.Nat.{lt-trans}
 use native.Mathlib.Omega.{arith}
 use lib.ListN.{length, getD, take, drop, length-append}
@@ -11,11 +11,12 @@ use Rattle.numbers.specs.Numbers.{Bytes, bigEndian, bigEndians, numberAt, numbe
 use Rattle.numbers.proofs.BigEndian.{length-bigEndian, length-bigEndians}
 use Rattle.numbers.proofs.Bytes.{Bytes-append, Bytes-bigEndian, Bytes-bigEndians}
 use Rattle.numbers.proofs.NumberAt.{numberAt-bigEndian, numbersAt-bigEndians, numberAt-drop, numbersAt-drop}
-use Rattle.frame.specs.Message.{Message, maskOf, present}
-use Rattle.frame.specs.Frame.{mark, versionOf, fields, frame}
-use Rattle.frame.specs.Reading.{markIn, versionIn, sourceIn, deadlineIn, maskIn, countIn, entriesIn, lengthIn, payloadPlace}
-use Rattle.frame.proofs.Entries.{maskOf-fits, onesIn-maskOf, present-lt}
+use Rattle.frame.specs.Message.{Message, maskOf, present, byPanel}
+use Rattle.frame.specs.Frame.{mark, versionOf, Width, fields, frame}
+use Rattle.frame.specs.Reading.{markIn, versionIn, sourceIn, deadlineIn, maskIn, countIn, entriesIn, lengthIn, payloadPlace, messageIn}
+use Rattle.frame.proofs.Entries.{maskOf-fits, onesIn-maskOf, present-lt, present-earlier, byPanel-present}
 use Rattle.frame.proofs.Readable.{Readable}
+use Rattle.frame.proofs.Passed.{Passed}
 
 -- ---- a field behind those before it
 
@@ -56,9 +57,9 @@ module _ (width : ℕ) (m : Message) where
   length-frame = simp (length-append, length-bigEndian) (omega (arith, entry-bytes))
 
   -- a frame is bytes
-  pub Bytes-frame : width < 256 → Readable width m → Bytes (frame width m)
+  pub Bytes-frame : Width width → Readable width m → Bytes (frame width m)
   unfolding frame fields flatten
-  Bytes-frame h r =
+  Bytes-frame w r =
       let few = maskOf-fits (m .entries) (r .panels) in
       Bytes-append (bigEndian 3 mark) _ (Bytes-bigEndian 3 mark (omega arith))
       (Bytes-append (bigEndian 2 (versionOf width)) _ (Bytes-bigEndian 2 (versionOf width) (omega arith))
@@ -73,9 +74,9 @@ module _ (width : ℕ) (m : Message) where
   unfolding frame fields flatten
   mark-place = numberAt-field (fields width m) 0 0 refl 3 mark refl (omega arith)
 
-  version-place : width < 256 → versionIn (frame width m) ≡ versionOf width
+  version-place : Width width → versionIn (frame width m) ≡ versionOf width
   unfolding frame fields flatten
-  version-place h = numberAt-field (fields width m) 1 3 (simp (length-append, length-bigEndian)) 2 (versionOf width) refl (omega arith)
+  version-place w = numberAt-field (fields width m) 1 3 (simp (length-append, length-bigEndian)) 2 (versionOf width) refl (omega arith)
 
   source-place : m .source < 64 → sourceIn (frame width m) ≡ m .source
   unfolding frame fields flatten
@@ -127,15 +128,15 @@ pub record Found (width : ℕ) (m : Message) (bs : List ℕ) : Type 0 where
   pub whole : length bs ≡ payloadPlace width bs + length (m .payload)
   pub payload : drop (payloadPlace width bs) bs ≡ m .payload
 
-pub frame-found : (width : ℕ) (m : Message) → width < 256 → Readable width m → Found width m (frame width m)
-frame-found width m h r =
+pub frame-found : (width : ℕ) (m : Message) → Width width → Readable width m → Found width m (frame width m)
+frame-found width m w r =
     let mask = mask-place width m (maskOf-fits (m .entries) (r .panels)) in
     let count : countIn width (frame width m) ≡ length (present (m .entries)) =
     ap (onesIn 64) mask
     ∙ subst (λ (n : ℕ). onesIn n (maskOf (m .entries)) ≡ length (present (m .entries))) (r .panels) (onesIn-maskOf (m .entries)) in
     record {
       mark = mark-place width m;
-      version = version-place width m h;
+      version = version-place width m w;
       source = source-place width m (r .source);
       deadline = deadline-place width m (r .fits);
       mask = mask;
@@ -145,3 +146,28 @@ frame-found width m h r =
       whole = rw count (length-frame width m);
       payload = rw count (payload-place width m);
     }
+
+-- ---- so no check applies, and the message is found
+
+pub frame-passed : (width : ℕ) (m : Message) → Width width → Readable width m → Passed width (frame width m)
+frame-passed width m w r =
+    let f = frame-found width m w r in
+    record {
+      long = omega (arith, f .whole);
+      mark = f .mark;
+      version = f .version;
+      source = omega (arith, f .source, r .source);
+      deadline = omega (arith, f .deadline, r .deadline);
+      room = omega (arith, f .whole);
+      entries = rw (f .deadline, f .entries) (present-earlier (m .deadline) (m .entries) (r .entries));
+      payload = omega (arith, f .size, r .payload);
+      whole = omega (arith, f .size, f .whole);
+    }
+
+pub frame-message : (width : ℕ) (m : Message) → Width width → Readable width m → messageIn width (frame width m) ≡ m
+unfolding messageIn
+frame-message width m w r =
+    let f = frame-found width m w r in
+    let es : byPanel 64 (maskIn width (frame width m)) (entriesIn width (frame width m)) ≡ m .entries =
+    rw (f .entries, f .mask, ← r .panels) (byPanel-present (m .entries)) in
+    λ i. record { source = f .source i; deadline = f .deadline i; entries = es i; payload = f .payload i }

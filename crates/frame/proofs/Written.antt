@@ -1,11 +1,10 @@
 -- Laws of writing a frame into a buffer: when it can be written, and that its parts, put one behind the other, are the frame. Assumes nothing.
-use mathlib.Core.Path.{_≡_, refl, sym, ap, _∙_}
+use mathlib.Core.Path.{_≡_, refl}
 use mathlib.Core.Bool.{true, false, and-false}
-use mathlib.Core.List.{List, [], _++_, flatten, append-assoc, append-nil}
+use mathlib.Core.List.{List, _++_, flatten, append-assoc, append-nil}
 use Prim.Native.Nat.{ℕ, _+_, _*_, _≤_, _<_}
 use native.Mathlib.Omega.{arith}
 use lib.ListN.{length, length-append}
-use lib.Dec.{leb}
 use borrow.Author.Tests.{le-leb, lt-leb}
 use Rattle.numbers.specs.Numbers.{bigEndian, bigEndians}
 use Rattle.numbers.specs.Buffer.{over}

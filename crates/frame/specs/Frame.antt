@@ -1,5 +1,5 @@
 -- Document 01, "The frame": the bytes of a message's frame. The width is that of a deadline and of an entry in bytes: 4 in version 1.
-use Prim.Native.Nat.{ℕ, _/_}
+use Prim.Native.Nat.{ℕ, _/_, _≤_, _<_}
 use mathlib.Core.List.{List, [], _∷_, flatten}
 use lib.ListN.{length}
 use Rattle.numbers.specs.Numbers.{bigEndian, bigEndians}
@@ -12,6 +12,10 @@ mark = 0x445259
 -- the version whose deadlines have that width
 abbrev pub versionOf : ℕ → ℕ
 versionOf width = width / 4
+
+-- a width that frames can have: at least 4 bytes, and its version within 16 bits
+abbrev pub Width : ℕ → Type 0
+Width width = (4 ≤ width) × (versionOf width < 65536)
 
 -- in order: mark, version, source, deadline, mask, entries, payload length, the payload
 unfoldable pub fields : ℕ → Message → List (List ℕ)

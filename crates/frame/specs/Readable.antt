@@ -1,4 +1,4 @@
--- Which messages have a frame: those that some readable frame carries (`RoundTrip` shows that these are the ones).
+-- Which messages have a frame: those that some readable frame carries (`readable-iff` of `Theorems` shows that these are the ones).
 use Prim.Native.Nat.{ℕ, _^_}
 use mathlib.Core.Bool.{Bool, true, _&&_}
 use mathlib.Core.List.{List, [], _∷_}

@@ -1,6 +1,6 @@
 -- Document 01, "The frame": what bytes read as. (`ltb`, `leb` and `eqb` are the library's tests for <, ≤ and ≡.)
 use Prim.Native.Nat.{ℕ, zero, suc, _+_, _*_}
-use mathlib.Core.Bool.{Bool, true, false, not, _&&_}
+use mathlib.Core.Bool.{Bool, true, not, _&&_}
 use mathlib.Core.List.{List, [], _∷_}
 use lib.ListN.{length, drop}
 use lib.Dec.{ltb, eqb}

@@ -3,7 +3,7 @@ use numbers::put_bytes;
 use numbers::put_number;
 ghost use mathlib.Core.Path.{_≡_};
 ghost use mathlib.Core.List.{_++_};
-ghost use Prim.Native.Nat.{_+_, _*_, _^_, _≤_, _<_};
+ghost use Prim.Native.Nat.{_+_, _*_, _≤_, _<_};
 ghost use lib.ListN.{length};
 ghost use Rattle.numbers.specs.Numbers.{bigEndian, bigEndians};
 ghost use Rattle.numbers.specs.Buffer.{over};

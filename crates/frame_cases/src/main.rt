@@ -69,9 +69,7 @@ fn print_damage(label: &[u8], frame: [u8; 40], at: usize, byte: u8) {
     print_check(label, first(&bytes, 26));
 }
 
-// A line of the fields that a reading gives, and of the payload.
-fn print_reading(frame: &[u8]) {
-    let fields = frame::read(frame);
+fn print_fields(fields: frame::Fields) {
     let entries = fields.entries;
     print_item(b"read: refusal ", fields.refusal as u64);
     print_item(b", source ", fields.source as u64);
@@ -79,34 +77,40 @@ fn print_reading(frame: &[u8]) {
     print_item(b", mask ", fields.mask);
     print_item(b", entry of panel 3 ", entry(entries, 3) as u64);
     print_item(b", payload length ", fields.payload_length as u64);
+}
+
+// A line of the fields that a reading gives, and of the payload.
+fn print_reading(frame: &[u8]) {
+    print_fields(frame::read(frame));
     print_line(b", payload:", frame::payload(frame));
+}
+
+// Writes a frame whose only entry is that of panel 3, 0 for none.
+fn write(source: u8, deadline: u32, entry: u32, payload: &[u8], buffer: &mut [u8]) -> usize {
+    let mut entries = [0u32; 64];
+    entries[3] = entry;
+    frame::write(source, deadline, entries, payload, buffer)
 }
 
 // A line of the length that a write answers, and of the first byte of the buffer, which was 07.
 fn print_write(label: &[u8], source: u8, deadline: u32, payload: &[u8], buffer: &mut [u8]) {
-    let mut entries = [0u32; 64];
-    entries[3] = 4;
-    let length = frame::write(source, deadline, entries, payload, buffer);
+    let length = write(source, deadline, 4, payload, buffer);
     print_item(label, length as u64);
     print_line(b", first byte ", first(buffer, 1));
 }
 
 fn print_cases() {
-    let mut entries = [0u32; 64];
     let mut frame = [0u8; 40];
-    let case_1 = frame::write(3, 1300, entries, b"OK", &mut frame);
+    let case_1 = write(3, 1300, 0, b"OK", &mut frame);
     print_frame(b"case 1: ", first(&frame, case_1));
-    entries[3] = 1300;
-    let case_2 = frame::write(3, 1301, entries, b"", &mut frame);
+    let case_2 = write(3, 1301, 1300, b"", &mut frame);
     print_frame(b"case 2: ", first(&frame, case_2));
 }
 
 // A frame of 26 bytes, with 14 zeros behind it.
 fn small_frame() -> [u8; 40] {
-    let mut entries = [0u32; 64];
-    entries[3] = 4;
     let mut frame = [0u8; 40];
-    frame::write(3, 9, entries, b"dry", &mut frame);
+    write(3, 9, 4, b"dry", &mut frame);
     frame
 }
 

@@ -1,8 +1,7 @@
 -- `frame::entries_by_panel` meets its contract. Its loop's invariant is `Filled`: the entries of the panels so far are laid. Assumes nothing.
 mod Filling
-use mathlib.Core.Path.{_≡_}
 use mathlib.Core.Logic.{⊎-elim}
-use Prim.Native.Nat.{ℕ, _-_}
+use Prim.Native.Nat.{_-_}
 use borrow.Author.Needs.{needs}
 use native.Mathlib.Omega.{arith}
 use denote.Ref.{now}

@@ -1,6 +1,6 @@
 -- `frame::frame_check` meets its contract: at each `return` the checks before it passed, and its own applies. Assumes nothing.
 use mathlib.Core.Path.{_≡_, refl, sym, ap, ap₂, _∙_}
-use mathlib.Core.Bool.{Bool, not}
+use mathlib.Core.Bool.{not}
 use mathlib.Core.List.{List}
 use Prim.Native.Nat.{ℕ, _+_, _-_, _*_, _≤_}
 use borrow.Author.Needs.{needs}
@@ -8,7 +8,7 @@ use borrow.Author.Tests.{lt-ltb, le-ltb, ltb-false, not-true, not-false}
 use native.Mathlib.Omega.{arith}
 use denote.Ref.{now}
 use lib.ListN.{length, getD, take}
-use Rattle.numbers.specs.Numbers.{numberAt, numbersAt}
+use Rattle.numbers.specs.Numbers.{numbersAt}
 use Rattle.numbers.proofs.NumberAt.{numberAt-one}
 use Rattle.frame.specs.Refusal.{firstOf}
 use Rattle.frame.specs.Reading.{deadlineIn, countIn, entriesIn, lengthIn, payloadPlace, eachEarlier, checks}

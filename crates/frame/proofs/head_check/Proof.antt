@@ -1,5 +1,5 @@
 -- `frame::head_check` meets its contract: at each `return` the checks before it passed, and its own applies. Assumes nothing.
-use mathlib.Core.Path.{_≡_, refl, sym, ap}
+use mathlib.Core.Path.{refl, sym, ap}
 use mathlib.Core.Bool.{Bool, not}
 use mathlib.Core.List.{List}
 use Prim.Native.Nat.{ℕ}

@@ -1,7 +1,7 @@
 -- `frame::read` meets its contract: bytes that no check applies to have their fields at the places of the definition. Assumes nothing.
-use mathlib.Core.Path.{_≡_, refl, sym, ap, _∙_}
+use mathlib.Core.Path.{_≡_, sym, ap, _∙_}
 use mathlib.Core.List.{List}
-use Prim.Native.Nat.{ℕ, _+_, _*_, _<_}
+use Prim.Native.Nat.{ℕ, _+_, _*_}
 use borrow.Author.Needs.{needs}
 use native.Mathlib.Omega.{arith}
 use denote.Ref.{now}
@@ -9,10 +9,10 @@ use lib.Count.{onesIn}
 use lib.ListN.{length, getD, replicate}
 use Rattle.numbers.specs.Numbers.{Bytes, numbersAt}
 use Rattle.numbers.proofs.NumberAt.{numberAt-one}
-use Rattle.frame.specs.Message.{maskOf, byPanel}
-use Rattle.frame.specs.Reading.{countIn, lengthIn, refusal, messageIn}
+use Rattle.frame.specs.Message.{byPanel}
+use Rattle.frame.specs.Reading.{countIn, refusal, messageIn}
 use Rattle.frame.proofs.Passed.{Passed, zero-passed, passed-zero, reading-zero, reading-refused, length-payload}
-use Rattle.frame.proofs.RoundTrip.{maskOf-passed}
+use Rattle.frame.proofs.Passed.{maskOf-passed}
 use Rattle.frame.proofs.read.Statement.{statement}
 use Rattle.frame.proofs.read.Tie as tie
 

@@ -1,6 +1,6 @@
 -- `numbers::put_number` meets its contract: after i turns the first i bytes of the number are in place. Assumes nothing.
 use mathlib.Core.Path.{_≡_, refl, sym, _∙_}
-use Prim.Native.Nat.{ℕ, _+_, _-_, _*_, _/_, _%_, _^_, _≤_}
+use Prim.Native.Nat.{_+_, _-_, _*_, _/_, _%_, _^_, _≤_}
 use borrow.Author.Needs.{needs}
 use native.Mathlib.Numerals.{add-one}
 use native.Mathlib.Omega.{arith}

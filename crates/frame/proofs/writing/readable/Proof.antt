@@ -1,5 +1,5 @@
 -- `frame::writing::readable` meets its contract: at each `return` the tests so far say whether the message has a frame. Assumes nothing.
-use mathlib.Core.Path.{_≡_, sym, _∙_}
+use mathlib.Core.Path.{sym, _∙_}
 use borrow.Author.Needs.{needs}
 use borrow.Author.Tests.{not-true, not-false}
 use native.Mathlib.Omega.{arith}

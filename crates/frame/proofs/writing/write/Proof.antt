@@ -15,7 +15,7 @@ use Rattle.frame.specs.Message.{Message, messageOf, present}
 use Rattle.frame.specs.Frame.{mark, frame}
 use Rattle.frame.specs.Readable.{readable}
 use Rattle.frame.proofs.Entries.{maskOf-fits, ones-maskOf}
-use Rattle.frame.proofs.Readable.{Readable, true-readable}
+use Rattle.frame.proofs.Readable.{true-readable}
 use Rattle.frame.proofs.Places.{length-frame}
 use Rattle.frame.proofs.Written.{head, body, tail, written-unreadable, written-short, written-frame, over-frame}
 use Rattle.frame.proofs.writing.write.Statement.{statement}

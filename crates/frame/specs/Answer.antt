@@ -26,7 +26,7 @@ abbrev pub payloadOf : Reading → List ℕ
 payloadOf (message m) = m .payload
 payloadOf (refused n) = []
 
--- where it starts in the bytes bs: it is their end; for bytes turned down their start
+-- where it starts: the payload is the end of the bytes bs; for bytes turned down at their start
 abbrev pub startOf : List ℕ → Reading → ℕ
 startOf bs (message m) = length bs - length (m .payload)
 startOf bs (refused n) = 0

@@ -17,17 +17,17 @@ versionOf width = width / 4
 abbrev pub Width : ℕ → Type 0
 Width width = (4 ≤ width) × (versionOf width < 65536)
 
--- in order: mark, version, source, deadline, mask, entries, payload length, the payload
+-- the fields, in order
 unfoldable pub fields : ℕ → Message → List (List ℕ)
 fields width m =
-    bigEndian 3 mark
-    ∷ bigEndian 2 (versionOf width)
-    ∷ bigEndian 1 (m .source)
-    ∷ bigEndian width (m .deadline)
-    ∷ bigEndian 8 (maskOf (m .entries))
-    ∷ bigEndians width (present (m .entries))
-    ∷ bigEndian 1 (length (m .payload))
-    ∷ m .payload
+    bigEndian 3 mark  -- mark
+    ∷ bigEndian 2 (versionOf width)  -- version
+    ∷ bigEndian 1 (m .source)  -- source
+    ∷ bigEndian width (m .deadline)  -- deadline
+    ∷ bigEndian 8 (maskOf (m .entries))  -- mask
+    ∷ bigEndians width (present (m .entries))  -- one entry for each mask bit that is set
+    ∷ bigEndian 1 (length (m .payload))  -- payload length
+    ∷ m .payload  -- the payload
     ∷ []
 
 -- the frame: its fields one after another

@@ -31,7 +31,8 @@ present [] = []
 present (zero ∷ es) = present es
 present (suc e ∷ es) = suc e ∷ present es
 
--- and back: the entries ws of the bits that are set among the lowest n of the mask, each at its panel's place, and 0 at the others
+-- and back: the entries ws of the bits that are set among the lowest n of the mask, each at its panel's place, and 0 at the others. The lowest
+-- bit, 0 or 1, says whether the first entry is the panel's and is used up
 unfoldable pub byPanel : ℕ → ℕ → List ℕ → List ℕ
 byPanel zero mask ws = []
 byPanel (suc n) mask ws = mask % 2 * getD ws 0 0 ∷ byPanel n (mask / 2) (drop (mask % 2) ws)

@@ -11,13 +11,13 @@ unfoldable pub eachBelow : ℕ → List ℕ → Bool
 eachBelow limit [] = true
 eachBelow limit (n ∷ ns) = ltb n limit && eachBelow limit ns
 
--- source 0 to 63; deadline at least 1, and within its width; 64 entries, each below the deadline; payload of 0 to 32 bytes
+-- the message fits the fields of a frame
 unfoldable pub readable : ℕ → Message → Bool
 readable width m =
-    ltb (m .source) 64
-    && ltb 0 (m .deadline)
-    && ltb (m .deadline) (256 ^ width)
-    && eqb (length (m .entries)) 64
-    && eachBelow (m .deadline) (m .entries)
-    && leb (length (m .payload)) 32
-    && eachBelow 256 (m .payload)
+    ltb (m .source) 64  -- source 0 to 63
+    && ltb 0 (m .deadline)  -- deadline at least 1
+    && ltb (m .deadline) (256 ^ width)  -- and within its width
+    && eqb (length (m .entries)) 64  -- an entry or 0 for each of 64 panels
+    && eachBelow (m .deadline) (m .entries)  -- each below the deadline
+    && leb (length (m .payload)) 32  -- payload length 0 to 32
+    && eachBelow 256 (m .payload)  -- the payload is bytes

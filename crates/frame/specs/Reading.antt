@@ -48,23 +48,22 @@ unfoldable pub eachEarlier : ℕ → List ℕ → Bool
 eachEarlier deadline [] = true
 eachEarlier deadline (e ∷ es) = ltb 0 e && ltb e deadline && eachEarlier deadline es
 
--- fewer than 19 bytes (1); mark (2); version (3); source (4); deadline 0 (5); too few bytes for the entries and the length byte (1);
--- entries, lowest panel first (6); payload length (7); too few bytes for the payload (1); bytes left over (8)
+-- the checks of a reading, in order, each with its number
 unfoldable pub checks : ℕ → List ℕ → List (Bool × ℕ)
 checks width bs =
-    (ltb (length bs) 19, 1)
-    ∷ (not (eqb (markIn bs) mark), 2)
-    ∷ (not (eqb (versionIn bs) (versionOf width)), 3)
-    ∷ (ltb 63 (sourceIn bs), 4)
-    ∷ (eqb (deadlineIn width bs) 0, 5)
-    ∷ (ltb (length bs) (payloadPlace width bs), 1)
-    ∷ (not (eachEarlier (deadlineIn width bs) (entriesIn width bs)), 6)
-    ∷ (ltb 32 (lengthIn width bs), 7)
-    ∷ (ltb (length bs) (payloadPlace width bs + lengthIn width bs), 1)
-    ∷ (ltb (payloadPlace width bs + lengthIn width bs) (length bs), 8)
+    (ltb (length bs) 19, 1)  -- fewer than 19 bytes
+    ∷ (not (eqb (markIn bs) mark), 2)  -- mark
+    ∷ (not (eqb (versionIn bs) (versionOf width)), 3)  -- version
+    ∷ (ltb 63 (sourceIn bs), 4)  -- source
+    ∷ (eqb (deadlineIn width bs) 0, 5)  -- deadline 0
+    ∷ (ltb (length bs) (payloadPlace width bs), 1)  -- too few bytes for the entries and the length byte
+    ∷ (not (eachEarlier (deadlineIn width bs) (entriesIn width bs)), 6)  -- entries
+    ∷ (ltb 32 (lengthIn width bs), 7)  -- payload length
+    ∷ (ltb (length bs) (payloadPlace width bs + lengthIn width bs), 1)  -- too few bytes for the payload
+    ∷ (ltb (payloadPlace width bs + lengthIn width bs) (length bs), 8)  -- bytes left over
     ∷ []
 
--- checks of a reading, the first that applies; 0 where none does
+-- the number of the first check that applies; 0 where none does
 abbrev pub refusal : ℕ → List ℕ → ℕ
 refusal width bs = firstOf (checks width bs)
 

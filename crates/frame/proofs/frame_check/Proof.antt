@@ -57,22 +57,24 @@ past3 : (c : tie.Else3) → Past (checks 4 (bytes3 c)) 7
 unfolding checks
 past3 c = pass (checks 4 (bytes3 c)) 6 (past2 (c .before .before .before)) (ap not (sym (earlier (c .before)) ∙ not-false _ (c .if3 .left)))
 
+abbrev count : tie.Else3 → ℕ
+count c = c .before .before .before .before .entry-count .result
+
 -- the length byte
-sized : (c : tie.Else3) → getD (bytes3 c) (19 + 4 * c .before .before .before .before .entry-count .result - 1) 0 ≡ lengthIn 4 (bytes3 c)
+sized : (c : tie.Else3) → getD (bytes3 c) (19 + 4 * count c - 1) 0 ≡ lengthIn 4 (bytes3 c)
 sized c =
-    let count = c .before .before .before .before .entry-count in
-    let at : 19 + 4 * count .result - 1 ≡ 18 + 4 * countIn 4 (bytes3 c) = omega (arith, count .ensures) in
-    rw at (sym (numberAt-one (bytes3 c) (18 + 4 * countIn 4 (bytes3 c)) (omega (arith, count .ensures, c .before .before .before .if2 .left))))
+    let counted = c .before .before .before .before .entry-count .ensures in
+    let at : 19 + 4 * count c - 1 ≡ 18 + 4 * countIn 4 (bytes3 c) = omega (arith, counted) in
+    rw at (sym (numberAt-one (bytes3 c) (18 + 4 * countIn 4 (bytes3 c)) (omega (arith, counted, c .before .before .before .if2 .left))))
 
 past4 : (c : tie.Else4) → Past (checks 4 (bytes4 c)) 8
 unfolding checks
 past4 c = pass (checks 4 (bytes4 c)) 7 (past3 (c .before .before)) (le-ltb 32 (lengthIn 4 (bytes4 c)) (omega (arith, sized (c .before .before))))
 
 -- the place behind the payload
-end : (c : tie.Else4) → 19 + 4 * c .before .before .before .before .before .before .entry-count .result
-    + getD (bytes4 c) (19 + 4 * c .before .before .before .before .before .before .entry-count .result - 1) 0
+end : (c : tie.Else4) → 19 + 4 * count (c .before .before) + getD (bytes4 c) (19 + 4 * count (c .before .before) - 1) 0
     ≡ payloadPlace 4 (bytes4 c) + lengthIn 4 (bytes4 c)
-end c = omega (arith, sized (c .before .before), c .before .before .before .before .before .before .entry-count .ensures)
+end c = let p = c .before .before in omega (arith, sized p, p .before .before .before .before .entry-count .ensures)
 
 past5 : (c : tie.Else5) → Past (checks 4 (bytes4 (c .before))) 9
 unfolding checks
@@ -122,7 +124,7 @@ shared-slice-read-length : tie.Need-shared-slice-read-length
 shared-slice-read-length c = search needs
 
 cast-length : tie.Need-cast-length
-cast-length c = omega (arith, c .shared-slice-known2 .given (19 + 4 * c .before .before .before .before .before .entry-count .result - 1))
+cast-length c = omega (arith, c .shared-slice-known2 .given (19 + 4 * count (c .before) - 1))
 
 returns-4 : tie.Need-returns-4
 unfolding checks

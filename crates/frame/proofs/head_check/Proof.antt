@@ -36,21 +36,27 @@ start2 c = start1 (c .before .before)
 
 past2 : (c : tie.Else2) → Past (head (start2 c)) 2
 unfolding checks
-past2 c = pass (head (start2 c)) 1 (past1 (c .before .before)) (ap not (eq-eqb (markIn (bytes (start2 c))) mark (omega (arith, c .before .number-at .ensures))))
+past2 c =
+    pass (head (start2 c)) 1 (past1 (c .before .before))
+    (ap not (eq-eqb (markIn (bytes (start2 c))) mark (omega (arith, c .before .number-at .ensures))))
 
 abbrev start3 : tie.Else3 → tie.Start
 start3 c = start2 (c .before .before)
 
 past3 : (c : tie.Else3) → Past (head (start3 c)) 3
 unfolding checks
-past3 c = pass (head (start3 c)) 2 (past2 (c .before .before)) (ap not (eq-eqb (versionIn (bytes (start3 c))) 1 (omega (arith, c .before .number-at2 .ensures))))
+past3 c =
+    pass (head (start3 c)) 2 (past2 (c .before .before))
+    (ap not (eq-eqb (versionIn (bytes (start3 c))) 1 (omega (arith, c .before .number-at2 .ensures))))
 
 abbrev start4 : tie.Else4 → tie.Start
 start4 c = start3 (c .before .before)
 
 past4 : (c : tie.Else4) → Past (head (start4 c)) 4
 unfolding checks
-past4 c = pass (head (start4 c)) 3 (past3 (c .before .before)) (le-ltb 63 (sourceIn (bytes (start4 c))) (omega (arith, numberAt-one (bytes (start4 c)) 5 (omega arith))))
+past4 c =
+    let bs = bytes (start4 c) in
+    pass (head (start4 c)) 3 (past3 (c .before .before)) (le-ltb 63 (sourceIn bs) (omega (arith, numberAt-one bs 5 (omega arith))))
 
 returns : tie.Need-returns
 unfolding checks
@@ -62,8 +68,9 @@ number-at-requires c κs = search needs
 returns-2 : tie.Need-returns-2
 unfolding checks
 returns-2 c =
-    stop (head (start1 (c .before .before))) 1 (past1 (c .before .before))
-    (ap not (ne-eqb (markIn (bytes (start1 (c .before .before)))) mark (omega (arith, c .before .number-at .ensures, c .if2 .taken))))
+    let p = c .before .before in
+    stop (head (start1 p)) 1 (past1 p)
+    (ap not (ne-eqb (markIn (bytes (start1 p))) mark (omega (arith, c .before .number-at .ensures, c .if2 .taken))))
 
 number-at-requires-2 : tie.Need-number-at-requires-2
 number-at-requires-2 c κs = search needs
@@ -71,8 +78,9 @@ number-at-requires-2 c κs = search needs
 returns-3 : tie.Need-returns-3
 unfolding checks
 returns-3 c =
-    stop (head (start2 (c .before .before))) 2 (past2 (c .before .before))
-    (ap not (ne-eqb (versionIn (bytes (start2 (c .before .before)))) 1 (omega (arith, c .before .number-at2 .ensures, c .if3 .taken))))
+    let p = c .before .before in
+    stop (head (start2 p)) 2 (past2 p)
+    (ap not (ne-eqb (versionIn (bytes (start2 p))) 1 (omega (arith, c .before .number-at2 .ensures, c .if3 .taken))))
 
 shared-slice-read-if4 : tie.Need-shared-slice-read-if4
 shared-slice-read-if4 c = search needs
@@ -80,8 +88,9 @@ shared-slice-read-if4 c = search needs
 returns-4 : tie.Need-returns-4
 unfolding checks
 returns-4 c =
-    stop (head (start3 (c .before .before))) 3 (past3 (c .before .before))
-    (lt-ltb 63 (sourceIn (bytes (start3 (c .before .before)))) (omega (arith, numberAt-one (bytes (start3 (c .before .before))) 5 (omega arith))))
+    let p = c .before .before in
+    let bs = bytes (start3 p) in
+    stop (head (start3 p)) 3 (past3 p) (lt-ltb 63 (sourceIn bs) (omega (arith, numberAt-one bs 5 (omega arith))))
 
 number-at-requires-3 : tie.Need-number-at-requires-3
 number-at-requires-3 c κs = search needs
@@ -89,14 +98,16 @@ number-at-requires-3 c κs = search needs
 returns-5 : tie.Need-returns-5
 unfolding checks
 returns-5 c =
-    stop (head (start4 (c .before .before))) 4 (past4 (c .before .before)) (eq-eqb (deadlineIn 4 (bytes (start4 (c .before .before)))) 0 (omega (arith, c .before .number-at3 .ensures)))
+    let p = c .before .before in
+    stop (head (start4 p)) 4 (past4 p) (eq-eqb (deadlineIn 4 (bytes (start4 p))) 0 (omega (arith, c .before .number-at3 .ensures)))
 
 returns-6 : tie.Need-returns-6
 unfolding checks firstOf
 returns-6 c =
+    let p = c .before .before in
     sym
-    (pass (head (start4 (c .before .before))) 4 (past4 (c .before .before))
-    (ne-eqb (deadlineIn 4 (bytes (start4 (c .before .before)))) 0 (omega (arith, c .before .number-at3 .ensures, c .if5 .left))))
+    (pass (head (start4 p)) 4 (past4 p)
+    (ne-eqb (deadlineIn 4 (bytes (start4 p))) 0 (omega (arith, c .before .number-at3 .ensures, c .if5 .left))))
 
 pub head-check-spec : {M : Type 1} → statement M
 head-check-spec =

@@ -1,9 +1,8 @@
 -- Laws of `bigEndian` and `number`: they undo each other, for every width. Assumes nothing.
-use mathlib.Core.Path.{_≡_, refl, sym, ap, ap₂, _∙_, subst}
+use mathlib.Core.Path.{_≡_, refl, sym, ap, _∙_, subst}
 use mathlib.Core.List.{List, [], _∷_, _++_, append-assoc, append-nil}
 use Prim.Native.Nat.{ℕ, zero, suc, _+_, _*_, _/_, _%_, _^_, _≤_, _<_}
-use native.Mathlib.Nat.{mul-assoc, mul-zero, mul-suc, pow-suc, pow-le-pow-right, mod-lt, div-add-mod', one-le-pow, zero-lt-suc}
-use native.Mathlib.Numerals.{add-one}
+use native.Mathlib.Nat.{add-mul, mul-assoc, mul-zero, mul-suc, pow-suc, pow-le-pow-right, mod-lt, div-add-mod', one-le-pow, zero-lt-suc}
 use native.Mathlib.Omega.{arith}
 use lib.ListN.{length, getD, length-append}
 use lib.Arith.{digits-lt, digits-div, digits-mod, lt-one}
@@ -17,9 +16,9 @@ pow-pos width = one-le-pow width 256 (zero-lt-suc 255)
 pub pow-le : (width : ℕ) → width ≤ 8 → 256 ^ width ≤ 2 ^ 64
 pow-le width h = pow-le-pow-right (zero-lt-suc 255) h
 
--- one byte more
-pub pow-lt-suc : (width n b : ℕ) → n < 256 ^ width → b < 256 → n * 256 + b < 256 ^ (width + 1)
-pow-lt-suc width n b h hb = rw (add-one, pow-suc) (omega arith)
+-- a number of so many bytes, and one of some bytes more behind it
+pub pow-lt-add : (width more n m : ℕ) → n < 256 ^ width → m < 256 ^ more → n * 256 ^ more + m < 256 ^ (width + more)
+pow-lt-add width more n m h hm = rw (pow-add 256 width more) (digits-lt h hm)
 
 pub length-bigEndian : (width n : ℕ) → length (bigEndian width n) ≡ width
 unfolding bigEndian
@@ -46,15 +45,18 @@ bigEndian-number [] b = refl
 bigEndian-number (x ∷ bs) b =
     let r = number-lt bs (λ i. b (suc i)) in rw (digits-div x r, digits-mod x r, bigEndian-number bs (λ i. b (suc i)))
 
--- ---- byte by byte
+-- ---- part by part, and byte by byte
 
-pub number-snoc : (bs : List ℕ) (b : ℕ) → number (bs ++ (b ∷ [])) ≡ number bs * 256 + b
+pub number-append : (xs ys : List ℕ) → number (xs ++ ys) ≡ number xs * 256 ^ length ys + number ys
 unfolding number
-number-snoc [] b = omega arith
-number-snoc (x ∷ bs) b =
-    let long : length (bs ++ (b ∷ [])) ≡ suc (length bs) = length-append bs (b ∷ []) ∙ add-one (length bs) in
-    ap₂ (λ (m n : ℕ). x * 256 ^ m + n) long (number-snoc bs b)
-    ∙ omega (arith, ap (λ (m : ℕ). x * m) (pow-suc 256 (length bs)), mul-assoc x (256 ^ length bs) 256)
+number-append [] ys = omega arith
+number-append (x ∷ xs) ys =
+    let a = 256 ^ length xs in
+    let b = 256 ^ length ys in
+    let long : 256 ^ length (xs ++ ys) ≡ 256 ^ length xs * 256 ^ length ys =
+    ap (λ (n : ℕ). 256 ^ n) (length-append xs ys) ∙ pow-add 256 (length xs) (length ys) in
+    rw (long, number-append xs ys)
+    (omega (arith, mul-assoc x a b, add-mul (x * a) (number xs) b))
 
 pow-256 : (j : ℕ) → 256 ^ j ≡ 2 ^ (8 * j)
 pow-256 zero = refl

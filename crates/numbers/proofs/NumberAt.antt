@@ -3,13 +3,12 @@ use mathlib.Core.Path.{_≡_, refl, sym, ap, _∙_, subst}
 use mathlib.Core.List.{List, [], _∷_, _++_, append-assoc}
 use Prim.Native.Nat.{ℕ, zero, suc, _+_, _*_, _^_, _≤_, _<_}
 use native.Mathlib.Nat.{add-assoc, add-comm, add-zero, zero-add, mul-zero, mul-suc}
-use native.Mathlib.Numerals.{add-one}
 use native.Mathlib.Omega.{arith}
 use lib.ListN.{length, getD, take, drop, length-drop}
-use lib.Seq.{length-take-le, take-at, drop-at, drop-drop, getD-drop, take-add, take-suc}
+use lib.Seq.{length-take-le, take-at, drop-at, drop-drop, take-add, drop-cons}
 use Rattle.numbers.specs.Numbers.{Bytes, bigEndian, bigEndians, number, numberAt, numbersAt}
 use Rattle.numbers.proofs.Bytes.{Bytes-drop, Bytes-take}
-use Rattle.numbers.proofs.BigEndian.{length-bigEndian, number-bigEndian, bigEndian-number, number-lt, number-snoc}
+use Rattle.numbers.proofs.BigEndian.{length-bigEndian, number-bigEndian, bigEndian-number, number-lt, number-append}
 
 -- ---- the number at a place, and its bytes
 
@@ -45,21 +44,27 @@ pub numberAt-drop : (bs : List ℕ) (at width : ℕ) → numberAt bs at width �
 unfolding numberAt
 numberAt-drop bs at width = refl
 
--- ---- byte by byte
+-- ---- part by part, and byte by byte
 
 pub numberAt-zero : (bs : List ℕ) (at : ℕ) → numberAt bs at 0 ≡ 0
 unfolding numberAt number
 numberAt-zero bs at = refl
 
-pub numberAt-suc : (bs : List ℕ) (at i : ℕ) → at + i < length bs → numberAt bs at (i + 1) ≡ numberAt bs at i * 256 + getD bs (at + i) 0
+-- a number, and some bytes more behind it
+pub numberAt-add : (bs : List ℕ) (at width more : ℕ) → at + width + more ≤ length bs
+    → numberAt bs at (width + more) ≡ numberAt bs at width * 256 ^ more + numberAt bs (at + width) more
 unfolding numberAt
-numberAt-suc bs at i h =
-    let h′ : i < length (drop at bs) = rw length-drop (omega arith) in
-    rw (add-one, take-suc (drop at bs) i 0 h′, getD-drop, number-snoc)
+numberAt-add bs at width more h =
+    let l : length (take more (drop (at + width) bs)) ≡ more = length-take-le more (drop (at + width) bs) (rw length-drop (omega arith)) in
+    rw (take-add width more (drop at bs), drop-drop width at bs, number-append, l)
 
 -- a number of one byte is the byte
 pub numberAt-one : (bs : List ℕ) (at : ℕ) → at < length bs → numberAt bs at 1 ≡ getD bs at 0
-numberAt-one bs at h = rw (numberAt-suc bs at 0 (omega arith), numberAt-zero, add-zero) (omega arith)
+unfolding numberAt number
+numberAt-one bs at h = rw (drop-cons bs at 0 h) (omega arith)
+
+pub numberAt-suc : (bs : List ℕ) (at i : ℕ) → at + i < length bs → numberAt bs at (i + 1) ≡ numberAt bs at i * 256 + getD bs (at + i) 0
+numberAt-suc bs at i h = numberAt-add bs at i 1 (omega arith) ∙ ap (λ (b : ℕ). numberAt bs at i * 256 + b) (numberAt-one bs (at + i) h)
 
 -- ---- numbers one after another
 

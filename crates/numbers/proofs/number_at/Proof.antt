@@ -1,83 +1,67 @@
--- `numbers::number_at` meets its contract: after i turns the number is that of the first i bytes, and below 256 ^ i. Assumes nothing.
-use mathlib.Core.Path.{_≡_, sym}
-use denote.Ref.{now}
-use Prim.Native.Nat.{_+_, _-_, _^_, _≤_, _<_}
+-- `numbers::number_at` meets its contract: the number is that of its first bytes with that of its last four behind it. Assumes nothing.
+use mathlib.Core.Path.{_≡_, sym, ap, ap₂, _∙_, subst}
+use Prim.Native.Nat.{ℕ, _+_, _-_, _*_, _^_, _<_}
 use borrow.Author.Needs.{needs}
 use native.Mathlib.Omega.{arith}
+use denote.Ref.{now}
 use Rattle.numbers.specs.Numbers.{numberAt}
-use Rattle.numbers.proofs.BigEndian.{pow-le, pow-lt-suc}
-use Rattle.numbers.proofs.NumberAt.{numberAt-zero, numberAt-suc}
+use Rattle.numbers.proofs.BigEndian.{pow-le, pow-lt-add}
+use Rattle.numbers.proofs.NumberAt.{numberAt-add}
 use Rattle.numbers.proofs.number_at.Statement.{statement}
 use Rattle.numbers.proofs.number_at.Tie as tie
 
-abbrev Inv-loop : tie.InvT-loop
-Inv-loop bytes at width number₀ i₀ number i = (i ≤ width) × (number ≡ numberAt bytes at i) × (number < 256 ^ i)
+-- the number is below 256 ^ width, which fits 64 bits
+below : (c : tie.After-bytewise2) (low : ℕ) → low < 256 ^ 4 → c .bytewise2 .result * 256 ^ 4 + low < 256 ^ c .before .before .before .args .width
+below c low h =
+    let width = c .before .before .before .args .width in
+    let e : c .before .before .before .args .width - 4 + 4 ≡ c .before .before .before .args .width = omega arith in
+    subst (λ (n : ℕ). c .bytewise2 .result * 256 ^ 4 + low < 256 ^ n) e (pow-lt-add (width - 4) 4 (c .bytewise2 .result) low (c .bytewise2 .ensures .1) h)
 
-abbrev μ-loop : tie.MeasureT-loop
-μ-loop bytes at width number₀ i₀ number i = width - i
+bytewise-requires : tie.Need-bytewise-requires
+bytewise-requires c κs = search needs
 
-loop-holds : tie.Need-loop-holds Inv-loop μ-loop
-loop-holds c = (search needs, sym (numberAt-zero _ _), omega arith)
+returns : tie.Need-returns
+returns c = search needs
 
-mul-number : tie.Need-mul-number Inv-loop μ-loop
-mul-number c =
-    let l = c .before .loop in
-    omega (arith, pow-lt-suc (l .i) (l .number) 0 (l .inv .2) (omega arith), pow-le (l .i + 1) (omega arith))
+sub-high : tie.Need-sub-high
+sub-high c = search needs
 
-add-wide : tie.Need-add-wide Inv-loop μ-loop
-add-wide c = search needs
+bytewise-requires-2 : tie.Need-bytewise-requires-2
+bytewise-requires-2 c κs = search needs
 
-shared-slice-read-wide : tie.Need-shared-slice-read-wide Inv-loop μ-loop
-shared-slice-read-wide c = search needs
+mul-result : tie.Need-mul-result
+mul-result c = omega (arith, below c 0 (omega arith), pow-le (c .before .before .before .args .width) (omega arith))
 
-wide-requires : tie.Need-wide-requires Inv-loop μ-loop
-wide-requires c κs = search needs
+add-bytewise : tie.Need-add-bytewise
+add-bytewise c = search needs
 
--- the byte that was read
-byte : (c : tie.After-wide Inv-loop μ-loop) → c .wide .result < 256
-byte c =
-    let a = c .before .before .before .before .before .args in
-    omega (arith, c .wide .ensures, c .before .shared-slice-known2 .given (a .at + c .before .before .before .loop .i))
+bytewise-requires-3 : tie.Need-bytewise-requires-3
+bytewise-requires-3 c κs = search needs
 
-add-number : tie.Need-add-number Inv-loop μ-loop
-add-number c =
-    let l = c .before .before .before .loop in
-    omega (arith, pow-lt-suc (l .i) (l .number) (c .wide .result) (l .inv .2) (byte c), pow-le (l .i + 1) (omega arith))
+add-result : tie.Need-add-result
+add-result c =
+    omega (arith, below (c .before) (c .bytewise3 .result) (c .bytewise3 .ensures .1), pow-le (c .before .before .before .before .args .width) (omega arith))
 
-add-i : tie.Need-add-i Inv-loop μ-loop
-add-i c = search needs
-
-loop-less : tie.Need-loop-less Inv-loop μ-loop
-loop-less c = search needs
-
-loop-again : tie.Need-loop-again Inv-loop μ-loop
-loop-again c =
-    let l = c .before .before .before .loop in
-    let a = c .before .before .before .before .before .args in (
-      search needs,
-      cc (numberAt-suc (now (a .bytes)) (a .at) (l .i) (omega arith)),
-      pow-lt-suc (l .i) (l .number) (c .wide .result) (l .inv .2) (byte c),
+returns-2 : tie.Need-returns-2
+returns-2 c =
+    let a = c .before .before .before .before .args in
+    let e : a .width - 4 + 4 ≡ a .width = omega arith in (
+      ap₂ (λ (high low : ℕ). high * 256 ^ 4 + low) (c .before .bytewise2 .ensures .0) (c .bytewise3 .ensures .0)
+          ∙ sym (numberAt-add (now (a .bytes)) (a .at) (a .width - 4) 4 (omega arith))
+          ∙ ap (numberAt (now (a .bytes)) (a .at)) e,
+      below (c .before) (c .bytewise3 .result) (c .bytewise3 .ensures .1),
     )
-
-returns : tie.Need-returns Inv-loop μ-loop
-returns c =
-    let l = c .before .loop in
-    let e : l .i ≡ c .before .before .before .args .width = omega arith in
-    rw (← e) (l .inv .1, l .inv .2)
 
 pub number-at-spec : {M : Type 1} → statement M
 number-at-spec =
     tie.close
     (tie.spec
-    Inv-loop
-    μ-loop
-    loop-holds
-    mul-number
-    add-wide
-    shared-slice-read-wide
-    wide-requires
-    add-number
-    add-i
-    loop-less
-    loop-again
-    returns)
+    bytewise-requires
+    returns
+    sub-high
+    bytewise-requires-2
+    mul-result
+    add-bytewise
+    bytewise-requires-3
+    add-result
+    returns-2)

@@ -1,13 +1,15 @@
 -- What is shown of frames as a whole, for every width of a deadline that frames can have. Assumes nothing.
-use mathlib.Core.Path.{_≡_, sym, ap, _∙_}
+use mathlib.Core.Path.{_≡_, sym, ap, ap₂, _∙_}
 use mathlib.Core.Logic.{_↔_}
 use mathlib.Core.Bool.{true}
 use mathlib.Core.List.{List}
 use Prim.Native.Nat.{ℕ, _+_, _*_, _/_, _%_, _^_, _≤_, _<_}
 use native.Mathlib.Nat.{zero-mul, one-mul}
 use native.Mathlib.Omega.{arith}
+use lib.Dec.{leb}
 use lib.ListN.{length, getD, take}
 use lib.Count.{onesIn}
+use borrow.Author.Tests.{leb-true}
 use Rattle.numbers.specs.Numbers.{Bytes, numberAt}
 use Rattle.numbers.proofs.NumberAt.{getD-numbersAt}
 use Rattle.numbers.proofs.Over.{take-over}
@@ -21,6 +23,7 @@ use Rattle.frame.proofs.Entries.{present-le}
 use Rattle.frame.proofs.Panels.{bit-maskOf, getD-byPanel, onesIn-lt}
 use Rattle.frame.proofs.Readable.{readable-true, true-readable}
 use Rattle.frame.proofs.Passed.{passed-zero, reading-zero, reading-message, passed-readable, passed-frame}
+use Rattle.frame.proofs.Written.{written-frame}
 use Rattle.frame.proofs.Places.{length-frame, Bytes-frame, frame-passed, frame-message}
 
 -- ---- there and back
@@ -39,7 +42,12 @@ frame-reading width bs m b e = let r = reading-message width bs m e in rw (← r
 pub reading-written : (width : ℕ) (m : Message) (buffer : List ℕ) → Width width → canWrite width m buffer ≡ true
     → reading width (take (writtenLength width m buffer) (written width m buffer)) ≡ message m
 unfolding canWrite
-reading-written width m buffer w e = rw (e, take-over) (reading-frame width m w (and-both (readable width m) _ e .0))
+reading-written width m buffer w e =
+    let t = and-both (readable width m) (leb (length (frame width m)) (length buffer)) e in
+    let f = written-frame width m buffer (t .0) (leb-true (length (frame width m)) (length buffer) (t .1)) in
+    ap₂ (λ (n : ℕ) (bs : List ℕ). reading width (take n bs)) (sym (f .0)) (sym (f .1))
+    ∙ ap (reading width) (take-over buffer (frame width m))
+    ∙ reading-frame width m w (t .0)
 
 -- ---- which messages have a frame
 

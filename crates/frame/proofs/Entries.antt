@@ -40,6 +40,13 @@ pub maskOf-div : (e : ℕ) (es : List ℕ) → maskOf (e ∷ es) / 2 ≡ maskOf 
 unfolding maskOf
 maskOf-div e es = omega (arith, bit-le e)
 
+-- each entry comes back to its panel
+pub byPanel-present : (es : List ℕ) → byPanel (length es) (maskOf es) (present es) ≡ es
+unfolding byPanel present
+byPanel-present [] = refl
+byPanel-present (zero ∷ es) = rw (maskOf-mod, maskOf-div, zero-mul) (ap (λ (l : List ℕ). 0 ∷ l) (byPanel-present es))
+byPanel-present (suc e ∷ es) = rw (maskOf-mod, maskOf-div, one-mul) (ap (λ (l : List ℕ). suc e ∷ l) (byPanel-present es))
+
 pub maskOf-lt : (es : List ℕ) → maskOf es < 2 ^ length es
 unfolding maskOf
 maskOf-lt [] = omega arith
@@ -96,12 +103,6 @@ pub length-byPanel : (n mask : ℕ) (ws : List ℕ) → length (byPanel n mask w
 unfolding byPanel
 length-byPanel zero mask ws = refl
 length-byPanel (suc n) mask ws = ap suc (length-byPanel n (mask / 2) (drop (mask % 2) ws))
-
-pub byPanel-present : (es : List ℕ) → byPanel (length es) (maskOf es) (present es) ≡ es
-unfolding byPanel present
-byPanel-present [] = refl
-byPanel-present (zero ∷ es) = rw (maskOf-mod, maskOf-div, zero-mul) (ap (λ (l : List ℕ). 0 ∷ l) (byPanel-present es))
-byPanel-present (suc e ∷ es) = rw (maskOf-mod, maskOf-div, one-mul) (ap (λ (l : List ℕ). suc e ∷ l) (byPanel-present es))
 
 -- each number is at least 1
 abbrev pub Positive : List ℕ → Type 0

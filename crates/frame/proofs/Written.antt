@@ -11,9 +11,9 @@ use Rattle.numbers.specs.Buffer.{over}
 use Rattle.numbers.proofs.BigEndian.{length-bigEndian, length-bigEndians}
 use Rattle.numbers.proofs.Over.{over-over}
 use Rattle.frame.specs.Message.{Message, maskOf, present}
-use Rattle.frame.specs.Frame.{mark, versionOf, fields, frame}
+use Rattle.frame.specs.Frame.{fields, frame}
 use Rattle.frame.specs.Readable.{readable}
-use Rattle.frame.specs.Written.{canWrite, written, writtenLength}
+use Rattle.frame.specs.Written.{headOf, canWrite, written, writtenLength}
 use Rattle.frame.proofs.Places.{length-frame}
 
 module _ (width : ℕ) (m : Message) (buffer : List ℕ) where
@@ -33,10 +33,9 @@ module _ (width : ℕ) (m : Message) (buffer : List ℕ) where
   unfolding canWrite
   written-frame e h = simp (e, le-leb (length (frame width m)) (length buffer) h) (refl, refl)
 
--- the fields up to the mask, the entries, and the payload behind its length
+-- a frame in three parts: the fields up to the mask, the entries, and the payload behind its length
 abbrev pub head : ℕ → Message → List ℕ
-head width m =
-    bigEndian 3 mark ++ bigEndian 2 (versionOf width) ++ bigEndian 1 (m .source) ++ bigEndian width (m .deadline) ++ bigEndian 8 (maskOf (m .entries))
+head width m = headOf width (m .source) (m .deadline) (maskOf (m .entries))
 
 abbrev pub body : ℕ → Message → List ℕ
 body width m = bigEndians width (present (m .entries))

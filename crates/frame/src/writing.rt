@@ -8,10 +8,9 @@ ghost use lib.ListN.{length};
 ghost use Rattle.numbers.specs.Numbers.{bigEndian, bigEndians};
 ghost use Rattle.numbers.specs.Buffer.{over};
 ghost use Rattle.frame.specs.Message.{messageOf, maskOf, present};
-ghost use Rattle.frame.specs.Frame.{mark};
 ghost use Rattle.frame.specs.Readable.{eachBelow};
 ghost use Rattle.frame.specs.Readable.{readable as isReadable};
-ghost use Rattle.frame.specs.Written.{written, writtenLength};
+ghost use Rattle.frame.specs.Written.{headOf, written, writtenLength};
 
 // Whether each number is below the limit.
 fn each_below(numbers: &[u32], limit: u32) -> bool
@@ -64,8 +63,7 @@ fn mask_of(entries: &[u32]) -> u64
 // Puts the fields up to the mask.
 fn put_head(buffer: &mut [u8], source: u8, deadline: u32, mask: u64)
     requires { ⌜ 18 ≤ length (now buffer) ⌝ }
-    ensures { λ _. ⌜ now (buffer .exit) ≡ over (now (buffer .entry)) 0
-        (bigEndian 3 mark ++ bigEndian 2 1 ++ bigEndian 1 source ++ bigEndian 4 deadline ++ bigEndian 8 mask) ⌝ }
+    ensures { λ _. ⌜ now (buffer .exit) ≡ over (now (buffer .entry)) 0 (headOf 4 source deadline mask) ⌝ }
 {
     put_number(buffer, 0, 3, 0x445259);
     put_number(buffer, 3, 2, 1);

@@ -7,7 +7,7 @@ use borrow.Author.Needs.{needs}
 use borrow.Author.Tests.{lt-ltb, le-ltb, eq-eqb, ne-eqb}
 use native.Mathlib.Omega.{arith}
 use denote.Ref.{now}
-use lib.ListN.{take}
+use lib.ListN.{length, take}
 use Rattle.numbers.proofs.NumberAt.{numberAt-one}
 use Rattle.frame.specs.Refusal.{firstOf}
 use Rattle.frame.specs.Frame.{mark}
@@ -29,7 +29,7 @@ start1 c = c .before .before
 
 past1 : (c : tie.Else1) → Past (head (start1 c)) 1
 unfolding checks
-past1 c = pass (head (start1 c)) 0 refl (le-ltb _ _ (c .if1 .left))
+past1 c = pass (head (start1 c)) 0 refl (le-ltb (length (bytes (start1 c))) 19 (omega arith))
 
 abbrev start2 : tie.Else2 → tie.Start
 start2 c = start1 (c .before .before)
@@ -60,7 +60,7 @@ past4 c =
 
 returns : tie.Need-returns
 unfolding checks
-returns c = stop (head (c .before .before)) 0 refl (lt-ltb _ _ (c .if1 .taken))
+returns c = let start = c .before .before in stop (head start) 0 refl (lt-ltb (length (bytes start)) 19 (omega arith))
 
 number-at-requires : tie.Need-number-at-requires
 number-at-requires c κs = search needs

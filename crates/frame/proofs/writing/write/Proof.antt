@@ -1,7 +1,7 @@
 -- `frame::writing::write` meets its contract: the frame is written where the message has one and the buffer room for it. Assumes nothing.
 use mathlib.Core.Path.{_≡_, sym, ap, _∙_}
 use mathlib.Core.Bool.{true}
-use mathlib.Core.List.{List, _++_}
+use mathlib.Core.List.{List}
 use Prim.Native.Nat.{ℕ, _+_, _*_, _≤_}
 use borrow.Author.Needs.{needs}
 use borrow.Author.Tests.{not-true, not-false}
@@ -9,11 +9,11 @@ use native.Mathlib.Omega.{arith}
 use denote.Ref.{now}
 use lib.Count.{ones, ones-le}
 use lib.ListN.{length}
-use Rattle.numbers.specs.Numbers.{bigEndian}
 use Rattle.numbers.specs.Buffer.{over}
 use Rattle.frame.specs.Message.{Message, messageOf, present}
-use Rattle.frame.specs.Frame.{mark, frame}
+use Rattle.frame.specs.Frame.{frame}
 use Rattle.frame.specs.Readable.{readable}
+use Rattle.frame.specs.Written.{headOf}
 use Rattle.frame.proofs.Entries.{maskOf-fits, ones-maskOf}
 use Rattle.frame.proofs.Readable.{true-readable}
 use Rattle.frame.proofs.Places.{length-frame}
@@ -94,9 +94,7 @@ headed : (c : tie.After-put-head) → c .put-head .last .0
 headed c =
     let s = start (c .before .before .before) in
     c .put-head .ensures
-    ∙ ap
-    (λ (mask : ℕ). over (now (s .args .buffer)) 0
-    (bigEndian 3 mark ++ bigEndian 2 1 ++ bigEndian 1 (s .args .source) ++ bigEndian 4 (s .args .deadline) ++ bigEndian 8 mask))
+    ∙ ap (λ (mask : ℕ). over (now (s .args .buffer)) 0 (headOf 4 (s .args .source) (s .args .deadline) mask))
     (c .before .before .before .mask-of .ensures)
 
 slice-aggregate-put-entries : tie.Need-slice-aggregate-put-entries

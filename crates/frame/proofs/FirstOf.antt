@@ -2,7 +2,7 @@
 -- and at n it passes or stops. Assumes nothing.
 use mathlib.Core.Path.{_≡_, refl, sym, _∙_}
 use mathlib.Core.Bool.{Bool, true, false, cond, _&&_, true≢false}
-use mathlib.Core.List.{List, [], _∷_}
+use mathlib.Core.List.{List, [], _∷_, _++_}
 use Prim.Native.Nat.{ℕ, zero, suc}
 use native.Mathlib.Omega.{arith}
 use lib.ListN.{getD, take, drop}
@@ -73,6 +73,18 @@ applies-none (c ∷ checks) r e n =
     go : c .0 ≡ false → ((i : ℕ) → applies checks i ≡ false) → (i : ℕ) → applies (c ∷ checks) i ≡ false
     go head tail zero = head
     go head tail (suc i) = tail i
+
+-- ---- a table in two parts
+
+pub firstOf-append : (checks more : List (Bool × ℕ)) → eachRefuses checks ≡ true → firstOf (checks ++ more) ≡ 0
+    → (firstOf checks ≡ 0) × (firstOf more ≡ 0)
+unfolding firstOf eachRefuses
+firstOf-append [] more r e = (refl, e)
+firstOf-append (c ∷ checks) more r e =
+    let refuses = and-both (ltb 0 (c .1)) (eachRefuses checks) r in
+    let t = passes (c .0) (c .1) (firstOf (checks ++ more)) (refuses .0) e in
+    let rest = firstOf-append checks more (refuses .1) (t .1) in
+    (rw (t .0) (rest .0), rest .1)
 
 pub firstOf-take : (checks : List (Bool × ℕ)) (n : ℕ) → (firstOf (take n checks) ≡ 0 → ⊥) → firstOf (take n checks) ≡ firstOf checks
 unfolding firstOf

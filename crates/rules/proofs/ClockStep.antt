@@ -1,0 +1,111 @@
+-- A clock call keeps what holds of a list. Assumes nothing.
+use Prim.Native.Nat.{ℕ, _+_, _≤_, _<_}
+use native.Mathlib.Omega.{arith}
+use mathlib.Core.Path.{_≡_, refl, ap, _∙_, subst⁻¹}
+use mathlib.Core.Logic.{_⊎_, inl, inr, ⊎-elim}
+use mathlib.Core.List.{List, [], _∷_, _++_, map, Memᴰ·append-left}
+use lib.ListN.{length}
+use Rattle.frame.specs.Message.{Message}
+use Rattle.frame.specs.Refusal.{firstOf}
+use Rattle.rules.specs.Panel.{Name, nameOf, Panel}
+use Rattle.rules.specs.Settling.{withWaiting, settle}
+use Rattle.rules.specs.Calls.{withTime, alive, dropLapsed, clocking}
+use Rattle.rules.specs.Refusals.{clockChecks}
+use Rattle.rules.specs.Results.{clock, done, defined}
+use Rattle.rules.specs.Lists.{_isIn_, Made, recordAt, framesSent, framesTaken, timeAfter, logAt, sends}
+use Rattle.rules.proofs.Ready.{limit, limit-time, dead, dead-withTime, limit-withTime}
+use Rattle.rules.proofs.WaitingList.{isIn-alive, alive-isIn, Distinct-alive, length-alive}
+use Rattle.rules.proofs.LogRecords.{EachReadable}
+use Rattle.rules.proofs.Checks.{Valid, ClockPassed, clock-passed}
+use Rattle.rules.proofs.Settling.{settle-settles}
+use Rattle.rules.proofs.Sound.{LogSound, WaitingSound, PanelSound}
+use Rattle.rules.proofs.Keeping.{logWith, Keeps, sound-withWaiting, settle-keeps}
+use Rattle.rules.proofs.Sites.{Site, siteAt, siteAfter, Placed, SiteSound}
+use Rattle.rules.proofs.Steps.{ListSound, list-with, made, unless-step, siteDone, siteAfter-done, placed-after, settle-readable}
+
+module _ (earlier : List Made) (L : ListSound earlier) (i : ℕ) (time : ℕ) (output : List ℕ) where
+  abbrev site : Site
+  site = siteAt i earlier
+
+  abbrev p : Panel
+  p = recordAt i earlier
+
+  abbrev log : List Name
+  log = logAt i earlier
+
+  -- the panel at the new time, without what has lapsed
+  abbrev q : Panel
+  q = dropLapsed (withTime p time)
+
+  -- a clock call that passes the checks
+  module _ (P : ClockPassed p time output) where
+    time-sound : LogSound (sends earlier) log (dead (withTime p time))
+    time-sound =
+        let G = L .sites i .sound .log-sound in
+        record {
+          known = G .known;
+          whole = λ x y k b. ⊎-elim (λ a. inl a) (λ d. inr (omega (arith, d, dead-withTime p time (P .later)))) (G .whole x y k b);
+          once = G .once;
+          order = G .order;
+        }
+
+    alive-sound : WaitingSound (sends earlier) log (limit (withTime p time)) (alive (withTime p time) (p .waiting))
+    alive-sound =
+        let W = L .sites i .sound .waits in
+        record {
+          sent = λ w k. W .sent w (isIn-alive (withTime p time) _ w k .0);
+          alive = λ w k. isIn-alive (withTime p time) _ w k .1;
+          unlogged = λ w k. W .unlogged w (isIn-alive (withTime p time) _ w k .0);
+          distinct = Distinct-alive (withTime p time) _ (W .distinct);
+        }
+
+    keeps : Keeps (sends earlier) log q (settle q)
+    keeps =
+        settle-keeps (L .sends-sound) q log
+        (sound-withWaiting (withTime p time) (alive (withTime p time) (p .waiting)) time-sound (L .sites i .sound .summary) alive-sound)
+
+    placed-later : (n : Name) → Placed log (p .waiting) (site .time) n → Placed log (q .waiting) time n
+    placed-later n (inl k) = inl k
+    placed-later n (inr (inl (w, k, e))) =
+        ⊎-elim (λ a. inr (inl (w, a, e)))
+        (λ lt. inr (inr (omega (arith, lt, limit-time (withTime p time), ap (λ (a : Name). a .deadline) e))))
+        (alive-isIn (withTime p time) (p .waiting) w k)
+    placed-later n (inr (inr lapsed)) = inr (inr (omega (arith, L .sites i .time, P .later)))
+
+    clocking-sound : SiteSound (sends earlier) i (siteDone site (clocking p time) (site .sent) (site .taken) time)
+    unfolding clocking
+    clocking-sound =
+        let G = L .sites i in
+        let T = settle-settles q in
+        record {
+          own = T .own ∙ G .own;
+          time = T .time;
+          sound = keeps .sound;
+          few = omega (arith, T .count, length-alive (withTime p time) (p .waiting), G .few);
+          settled = T .settled;
+          placed = λ n k. placed-after keeps n (placed-later n (G .placed n k));
+          mine = λ s k e. Memᴰ·append-left _ (G .mine s k e);
+        }
+
+    clocking-readable : EachReadable (clocking p time .handed)
+    unfolding clocking
+    clocking-readable = settle-readable q (λ w k. P .valid .waiting w (isIn-alive (withTime p time) (p .waiting) w k .0))
+
+    sends-done : sends (made i (clock time output) (done (clocking p time) output [] []) ∷ earlier) ≡ sends earlier
+    unfolding sends framesSent
+    sends-done = refl
+
+    site-done : siteAfter site (clock time output) (done (clocking p time) output [] []) ≡ siteDone site (clocking p time) (site .sent) (site .taken) time
+    unfolding framesSent framesTaken timeAfter done
+    site-done = siteAfter-done site (clock time output) (clocking p time) output [] [] clocking-readable
+
+    done-sound : ListSound (made i (clock time output) (done (clocking p time) output [] []) ∷ earlier)
+    done-sound =
+        list-with _ earlier (sends earlier) sends-done (L .sends-sound)
+        (subst⁻¹ (SiteSound (sends earlier) i) site-done clocking-sound) (λ j _. L .sites j)
+
+  pub clock-step : ListSound (made i (clock time output) (defined p (clock time output)) ∷ earlier)
+  unfolding defined
+  clock-step =
+      unless-step earlier L i (clock time output) (firstOf (clockChecks p time output)) output [] (done (clocking p time) output [] [])
+      (λ e. done-sound (clock-passed p time output e))

@@ -1,0 +1,41 @@
+-- Laws of `raise`, by which marks and barrier entries grow, and of 64 zeros. Assumes nothing.
+use Prim.Native.Nat.{ℕ, zero, suc, _≤_, _<_, max}
+use native.Mathlib.Decide.{ℕ-discrete}
+use native.Mathlib.Omega.{arith}
+use mathlib.Core.Path.{_≡_, refl}
+use mathlib.Core.Logic.{_≢_, by-cases}
+use mathlib.Core.List.{List}
+use lib.ListN.{length, getD, set, replicate, length-set, length-replicate}
+use lib.Seq.{getD-set-same, getD-set-other}
+use Rattle.frame.specs.Message.{Message}
+use Rattle.rules.specs.Panel.{none64}
+use Rattle.rules.specs.Handing.{raise}
+
+pub length-raise : (ns : List ℕ) (m : Message) → length (raise ns m) ≡ length ns
+unfolding raise
+length-raise ns m = length-set ns (m .source) _
+
+pub raise-same : (ns : List ℕ) (m : Message) → m .source < length ns → getD (raise ns m) (m .source) 0 ≡ max (getD ns (m .source) 0) (m .deadline)
+unfolding raise
+raise-same ns m lt = getD-set-same ns (m .source) _ 0 lt
+
+pub raise-other : (ns : List ℕ) (m : Message) (panel : ℕ) → panel ≢ m .source → getD (raise ns m) panel 0 ≡ getD ns panel 0
+unfolding raise
+raise-other ns m panel other = getD-set-other ns (m .source) panel _ 0 other
+
+pub raise-le : (ns : List ℕ) (m : Message) → m .source < length ns → (panel : ℕ) → getD ns panel 0 ≤ getD (raise ns m) panel 0
+raise-le ns m lt panel =
+    by-cases (ℕ-discrete panel (m .source)) (λ e. rw e (omega (arith, raise-same ns m lt))) (λ other. omega (arith, raise-other ns m panel other))
+
+zeros : (n panel : ℕ) → getD {A = ℕ} (replicate n 0) panel 0 ≡ 0
+zeros zero panel = refl
+zeros (suc n) zero = refl
+zeros (suc n) (suc panel) = zeros n panel
+
+pub getD-none64 : (panel : ℕ) → getD none64 panel 0 ≡ 0
+unfolding none64
+getD-none64 panel = zeros 64 panel
+
+pub length-none64 : length none64 ≡ 64
+unfolding none64
+length-none64 = length-replicate {A = ℕ} 64 0

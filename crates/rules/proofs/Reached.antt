@@ -1,0 +1,97 @@
+-- What holds after every list of calls, and what it says of the log of a panel. Assumes nothing.
+use Prim.Native.Nat.{ℕ, _≤_, _<_}
+use native.Mathlib.Omega.{arith}
+use mathlib.Core.Path.{_≡_, refl, sym, ap, _∙_, subst, subst⁻¹}
+use mathlib.Core.Logic.{_⊎_, inl, inr, ⊎-elim}
+use mathlib.Core.List.{List, [], _∷_}
+use lib.ListN.{getD}
+use Rattle.frame.specs.Message.{Message}
+use Rattle.rules.specs.Panel.{Name, nameOf, Panel, none64, fresh}
+use Rattle.rules.specs.Results.{Call, send, receive, clock, Result, defined, Promised}
+use Rattle.rules.specs.Lists.{_isIn_, Made, recordAt, sentAt, takenAt, logAt, timeAt, LapsedAt, Sent, sends, Before, direct, Given, Lawful, AllPromised}
+use Rattle.rules.proofs.Ready.{limit, limit-time, dead, dead-limit, ready-false}
+use Rattle.rules.proofs.Raise.{getD-none64, length-none64}
+use Rattle.rules.proofs.Cause.{carried, named, nothing-sent}
+use Rattle.rules.proofs.Sound.{WasSent}
+use Rattle.rules.proofs.Sites.{Site, siteAt, SiteSound}
+use Rattle.rules.proofs.Steps.{ListSound, made}
+use Rattle.rules.proofs.SendStep.{send-step}
+use Rattle.rules.proofs.ReceiveStep.{receive-step}
+use Rattle.rules.proofs.ClockStep.{clock-step}
+
+-- ---- after every list
+
+empty-sound : ListSound []
+unfolding recordAt logAt sentAt takenAt timeAt sends fresh
+empty-sound =
+    record {
+      sends-sound = nothing-sent;
+      sites = λ i.
+          record {
+            own = refl;
+            time = refl;
+            sound =
+                record {
+                  log-sound = record { known = λ x k. elim k [ ]; whole = λ x y k. elim k [ ]; once = λ x a. a; order = λ x y a. absurd a };
+                  summary =
+                      record {
+                        marks-64 = length-none64;
+                        barrier-64 = length-none64;
+                        below-mark = λ x k. elim k [ ];
+                        mark-logged = λ k above. absurd (omega (arith, getD-none64 k));
+                        below-high = λ x k. elim k [ ];
+                        barrier-logged = λ k above. absurd (omega (arith, getD-none64 k));
+                        barrier-covers = λ x k. elim k [ ];
+                      };
+                  waits = record { sent = λ w k. elim k [ ]; alive = λ w k. elim k [ ]; unlogged = λ w k. elim k [ ]; distinct = tt };
+                };
+            few = omega arith;
+            settled = λ w k. elim k [ ];
+            placed = λ n k. ⊎-elim (λ a. elim a [ ]) (λ a. elim a [ ]) k;
+            mine = λ t k. elim k [ ];
+          };
+    }
+
+step : (earlier : List Made) → ListSound earlier → (i : ℕ) (call : Call) → Given (sends earlier) call (defined (recordAt i earlier) call)
+    → ListSound (made i call (defined (recordAt i earlier) call) ∷ earlier)
+unfolding Given
+step earlier L i (send payload lifetime output buffer) given = send-step earlier L i payload lifetime output buffer given
+step earlier L i (receive bytes output) given = receive-step earlier L i bytes output given
+step earlier L i (clock time output) given = clock-step earlier L i time output
+
+pub list-sound : (list : List Made) → Lawful list → AllPromised list → ListSound list
+list-sound [] lawful promised = empty-sound
+list-sound (last ∷ earlier) (number, given, lawful) (promise, promised) =
+    subst⁻¹ (λ result. Given (sends earlier) (last .call) result → ListSound (made (last .at) (last .call) result ∷ earlier)) promise
+    (step earlier (list-sound earlier lawful promised) (last .at) (last .call)) given
+
+-- ---- the log of a panel
+
+module _ (list : List Made) (L : ListSound list) (i : ℕ) where
+  -- what is before a message of the log is in the log or has lapsed
+  pub logged-whole : (n x : Name) → n isIn logAt i list → Before (sends list) x n → (x isIn logAt i list) ⊎ LapsedAt i list x
+  logged-whole n x k b =
+      let G = L .sites i in
+      ⊎-elim (λ a. inl a) (λ d. inr (omega (arith, d, dead-limit (recordAt i list), limit-time (recordAt i list), G .time))) (G .sound .log-sound .whole n x k b)
+
+  -- a message that waits is not ready: some message before it is neither in the log nor lapsed
+  waits-for : (w : Message) → w isIn recordAt i list .waiting
+      → ((x : Name) → Before (sends list) x (nameOf w) → (x isIn logAt i list) ⊎ LapsedAt i list x) → ⊥
+  waits-for w k all =
+      let (s, above, live) = ready-false (recordAt i list) w (L .sites i .settled w k) in
+      go s above live (L .sites i .sound .waits .sent w k)
+    where
+      go : (s : ℕ) → getD (recordAt i list .marks) s 0 < getD (w .entries) s 0 → limit (recordAt i list) ≤ getD (w .entries) s 0
+          → WasSent (sends list) w → ⊥
+      go s above live (t, j, e) =
+          let G = L .sites i in
+          let b : Before (sends list) (named s (getD (w .entries) s 0)) (nameOf w) =
+          direct t j (ap nameOf e) (rw e at (L .sends-sound .entry t j s (rw e (omega arith)))) in
+          ⊎-elim (λ a. omega (arith, G .sound .summary .below-mark _ a, above)) (λ a. omega (arith, a, live, limit-time (recordAt i list), G .time)) (all _ b)
+
+  -- a message sent or taken there, with all that is before it in the log or lapsed, is in the log or lapsed itself
+  pub whole-logged : (n : Name) → (n isIn sentAt i list) ⊎ (n isIn takenAt i list) → ¬ LapsedAt i list n
+      → ((x : Name) → Before (sends list) x n → (x isIn logAt i list) ⊎ LapsedAt i list x) → n isIn logAt i list
+  whole-logged n k live all =
+      ⊎-elim (λ a. a) (⊎-elim (λ a. absurd (waits-for (a .0) (a .1) (λ x b. all x (subst (Before (sends list) x) (a .2) b)))) (λ a. absurd (live a)))
+      (L .sites i .placed n k)

@@ -1,0 +1,170 @@
+-- A receive keeps what holds of a list. Assumes nothing.
+use Prim.Native.Nat.{ℕ, _+_, _≤_, _<_}
+use native.Mathlib.Omega.{arith}
+use mathlib.Core.Path.{_≡_, refl, sym, ap, _∙_, subst, subst⁻¹}
+use mathlib.Core.Logic.{_⊎_, inl, inr, ⊎-elim, _≢_}
+use mathlib.Core.Bool.{true, false, cond, true≢false}
+use mathlib.Core.List.{List, [], _∷_, _++_, map, List·Memᴰ·head as first, List·Memᴰ·tail as later, Memᴰ·append-left, Memᴰ·append-right, Memᴰ·cast}
+use lib.ListN.{length, getD, length-append}
+use Rattle.frame.specs.Message.{Message}
+use Rattle.frame.specs.Refusal.{firstOf}
+use Rattle.frame.specs.Reading.{messageIn}
+use Rattle.frame.proofs.Readable.{Readable}
+use Rattle.rules.specs.Sizes.{width}
+use Rattle.rules.specs.Panel.{Name, nameOf, Panel, ready}
+use Rattle.rules.specs.Handing.{hand}
+use Rattle.rules.specs.Settling.{Settled, withWaiting, settle}
+use Rattle.rules.specs.Calls.{handAndSettle, receiving}
+use Rattle.rules.specs.Refusals.{receiveChecks}
+use Rattle.rules.specs.Results.{Call, receive, Result, refused, done, unless, defined}
+use Rattle.rules.specs.Lists.{_isIn_, Made, recordAt, framesSent, framesTaken, nameIn, timeAfter, logAt, Sent, sends, Given}
+use Rattle.rules.proofs.Booleans.{cond-both}
+use Rattle.rules.proofs.Ready.{limit}
+use Rattle.rules.proofs.WaitingList.{isIn-end, Distinct-end}
+use Rattle.rules.proofs.LogRecords.{EachReadable}
+use Rattle.rules.proofs.Checks.{Valid, ReceivePassed, receive-passed}
+use Rattle.rules.proofs.Settling.{settle-settles}
+use Rattle.rules.proofs.Cause.{name, SendsSound}
+use Rattle.rules.proofs.Sound.{WasSent, WaitingSound, PanelSound}
+use Rattle.rules.proofs.Handing.{hand-ready}
+use Rattle.rules.proofs.Keeping.{logWith, Keeps, sound-withWaiting, keeps-hand, settle-keeps}
+use Rattle.rules.proofs.Sites.{Site, siteAt, siteAfter, Placed, SiteSound}
+use Rattle.rules.proofs.Steps.{ListSound, list-with, made, unless-step, siteDone, siteAfter-done, placed-after, settle-readable, readable-cons}
+
+module _ (earlier : List Made) (L : ListSound earlier) (i : ℕ) (bytes output : List ℕ) where
+  abbrev site : Site
+  site = siteAt i earlier
+
+  abbrev p : Panel
+  p = recordAt i earlier
+
+  abbrev m : Message
+  m = messageIn width bytes
+
+  abbrev log : List Name
+  log = logAt i earlier
+
+  -- a receive that passes the checks, of a frame that was sent
+  module _ (P : ReceivePassed p bytes output m) (was-sent : WasSent (sends earlier) m) where
+    readable : Readable width m
+    readable = let (s, k, e) = was-sent in subst (Readable width) e (L .sends-sound .readable s k)
+
+    unlogged : ¬ (nameOf m isIn log)
+    unlogged k = omega (arith, L .sites i .sound .summary .below-mark _ k, P .above-mark)
+
+    -- ---- it is handed
+
+    handed-keeps : ready p m ≡ true → Keeps (sends earlier) log p (handAndSettle p m)
+    unfolding handAndSettle
+    handed-keeps r =
+        keeps-hand p m (λ w k. inr k)
+        (settle-keeps (L .sends-sound) (hand p m) _
+        (hand-ready (L .sends-sound) (L .sites i .sound) m was-sent (P .alive) unlogged r (P .not-waiting)))
+
+    handed-sound : ready p m ≡ true
+        → SiteSound (sends earlier) i (siteDone site (handAndSettle p m) (site .sent) (nameOf m ∷ site .taken) (site .time))
+    unfolding handAndSettle hand
+    handed-sound r =
+        let G = L .sites i in
+        let T = settle-settles (hand p m) in
+        record {
+          own = T .own ∙ G .own;
+          time = T .time ∙ G .time;
+          sound = handed-keeps r .sound;
+          few = omega (arith, T .count, G .few);
+          settled = T .settled;
+          placed = placed;
+          mine = λ s k q. Memᴰ·append-left _ (G .mine s k q);
+        }
+      where
+        placed : (n : Name) → (n isIn site .sent) ⊎ (n isIn nameOf m ∷ site .taken)
+            → Placed (logWith log (handAndSettle p m .handed)) (handAndSettle p m .panel .waiting) (site .time) n
+        placed n (inl k) = placed-after (handed-keeps r) n (L .sites i .placed n (inl k))
+        placed n (inr (first e)) = inl (Memᴰ·append-right log (first e))
+        placed n (inr (later k)) = placed-after (handed-keeps r) n (L .sites i .placed n (inr k))
+
+    -- ---- it goes to the end of the list
+
+    abbrev q : Panel
+    q = withWaiting p (p .waiting ++ (m ∷ []))
+
+    waiting-sound : PanelSound (sends earlier) log q
+    waiting-sound =
+        let G = L .sites i .sound in
+        let W = G .waits in
+        sound-withWaiting p (p .waiting ++ (m ∷ [])) (G .log-sound) (G .summary)
+        (record {
+          sent = λ w k. ⊎-elim (W .sent w) (λ e. rw e was-sent) (isIn-end (p .waiting) k);
+          alive = λ w k. ⊎-elim (W .alive w) (λ e. rw e (P .alive)) (isIn-end (p .waiting) k);
+          unlogged = λ w k. ⊎-elim (W .unlogged w) (λ e. rw e unlogged) (isIn-end (p .waiting) k);
+          distinct = Distinct-end (p .waiting) m (W .distinct) (P .not-waiting);
+        })
+
+    waiting-keeps : Keeps (sends earlier) log q (settle q)
+    waiting-keeps = settle-keeps (L .sends-sound) q log waiting-sound
+
+    waits-sound : length (p .waiting) < 32 → SiteSound (sends earlier) i (siteDone site (settle q) (site .sent) (nameOf m ∷ site .taken) (site .time))
+    waits-sound room =
+        let G = L .sites i in
+        let T = settle-settles q in
+        record {
+          own = T .own ∙ G .own;
+          time = T .time ∙ G .time;
+          sound = waiting-keeps .sound;
+          few = omega (arith, T .count, length-append (p .waiting) (m ∷ []));
+          settled = T .settled;
+          placed = λ n k. placed-after waiting-keeps n (placed n k);
+          mine = λ s k q. Memᴰ·append-left _ (G .mine s k q);
+        }
+      where
+        widen : {n : Name} → Placed log (p .waiting) (site .time) n → Placed log (p .waiting ++ (m ∷ [])) (site .time) n
+        widen (inl k) = inl k
+        widen (inr (inl (w, k, e))) = inr (inl (w, Memᴰ·append-left _ k, e))
+        widen (inr (inr k)) = inr (inr k)
+
+        placed : (n : Name) → (n isIn site .sent) ⊎ (n isIn nameOf m ∷ site .taken) → Placed log (p .waiting ++ (m ∷ [])) (site .time) n
+        placed n (inl k) = widen (L .sites i .placed n (inl k))
+        placed n (inr (first e)) = inr (inl (m, Memᴰ·append-right (p .waiting) (first refl), sym e))
+        placed n (inr (later k)) = widen (L .sites i .placed n (inr k))
+
+    -- ---- either way
+
+    receiving-readable : EachReadable (receiving p m .handed)
+    unfolding receiving handAndSettle hand
+    receiving-readable = cond-both (λ (s : Settled). EachReadable (s .handed)) (ready p m)
+        (λ _. readable-cons readable (settle-readable (hand p m) (P .valid .waiting)))
+        (λ _. settle-readable q (λ w k. ⊎-elim (P .valid .waiting w) (λ e. rw e readable) (isIn-end (p .waiting) k)))
+
+    receiving-sound : SiteSound (sends earlier) i (siteDone site (receiving p m) (site .sent) (nameOf m ∷ site .taken) (site .time))
+    unfolding receiving
+    receiving-sound =
+        cond-both (λ (s : Settled). SiteSound (sends earlier) i (siteDone site s (site .sent) (nameOf m ∷ site .taken) (site .time))) (ready p m)
+        handed-sound (λ r. waits-sound (⊎-elim (λ l. l) (λ t. absurd (true≢false (sym t ∙ r))) (P .room)))
+
+    sends-done : sends (made i (receive bytes output) (done (receiving p m) output [] []) ∷ earlier) ≡ sends earlier
+    unfolding sends framesSent
+    sends-done = refl
+
+    site-done : siteAfter site (receive bytes output) (done (receiving p m) output [] [])
+        ≡ siteDone site (receiving p m) (site .sent) (nameOf m ∷ site .taken) (site .time)
+    unfolding framesSent framesTaken timeAfter done
+    site-done = siteAfter-done site (receive bytes output) (receiving p m) output [] [] receiving-readable
+
+    done-sound : ListSound (made i (receive bytes output) (done (receiving p m) output [] []) ∷ earlier)
+    done-sound =
+        list-with _ earlier (sends earlier) sends-done (L .sends-sound)
+        (subst⁻¹ (SiteSound (sends earlier) i) site-done receiving-sound) (λ j _. L .sites j)
+
+  -- where the call is not refused, the frame was sent
+  given-sent : (number : ℕ) → number ≡ 0
+      → Given (sends earlier) (receive bytes output) (unless number (refused p output []) (done (receiving p m) output [] [])) → WasSent (sends earlier) m
+  unfolding Given unless done
+  given-sent number e (inl (s, k, f)) = (s, k, ap (messageIn width) f)
+  given-sent number e (inr refuses) = absurd ((rw e at refuses) refl)
+
+  pub receive-step : Given (sends earlier) (receive bytes output) (defined p (receive bytes output))
+      → ListSound (made i (receive bytes output) (defined p (receive bytes output)) ∷ earlier)
+  unfolding defined
+  receive-step given =
+      unless-step earlier L i (receive bytes output) (firstOf (receiveChecks p bytes output)) output [] (done (receiving p m) output [] [])
+      (λ e. done-sound (receive-passed p bytes output e) (given-sent (firstOf (receiveChecks p bytes output)) e given))

@@ -1,0 +1,168 @@
+-- A send keeps what holds of a list. Assumes nothing.
+use Prim.Native.Nat.{ℕ, _+_, _≤_, _<_, max}
+use native.Mathlib.Omega.{arith}
+use mathlib.Core.Path.{_≡_, refl, sym, ap, _∙_, subst, subst⁻¹}
+use mathlib.Core.Logic.{_⊎_, inl, inr, ⊎-elim, _≢_}
+use mathlib.Core.List.{List, [], _∷_, _++_, map, List·Memᴰ·head as first, List·Memᴰ·tail as later, Memᴰ·append-left, Memᴰ·append-right, Memᴰ·cast}
+use lib.ListN.{length, take, getD}
+use Rattle.numbers.specs.Numbers.{Bytes}
+use Rattle.numbers.specs.Buffer.{over}
+use Rattle.numbers.proofs.Over.{take-over}
+use Rattle.frame.specs.Message.{Message}
+use Rattle.frame.specs.Frame.{frame}
+use Rattle.frame.specs.Refusal.{firstOf}
+use Rattle.frame.specs.Reading.{messageIn}
+use Rattle.frame.proofs.Readable.{Readable}
+use Rattle.frame.proofs.Places.{frame-message}
+use Rattle.rules.specs.Sizes.{width}
+use Rattle.rules.specs.Panel.{Name, nameOf, Panel}
+use Rattle.rules.specs.Handing.{hand}
+use Rattle.rules.specs.Settling.{Settled, settle}
+use Rattle.rules.specs.Calls.{handAndSettle, sendDeadline, newMessage, emptied, sending}
+use Rattle.rules.specs.Refusals.{sendChecks}
+use Rattle.rules.specs.Results.{Call, send, Result, done, defined}
+use Rattle.rules.specs.Lists.{_isIn_, Made, recordAt, framesSent, framesTaken, nameIn, timeAfter, logAt, Sent, sends}
+use Rattle.rules.proofs.Ready.{limit, limit-sendDeadline}
+use Rattle.rules.proofs.Checks.{Valid, SendPassed, send-passed, new-readable}
+use Rattle.rules.proofs.LogRecords.{EachReadable}
+use Rattle.rules.proofs.Settling.{settle-settles}
+use Rattle.rules.proofs.Cause.{carried, name, SendsSound}
+use Rattle.rules.proofs.Sound.{PanelSound}
+use Rattle.rules.proofs.Sending.{New, sends-more, panel-more, own-sound}
+use Rattle.rules.proofs.Keeping.{logWith, Keeps, keeps-hand, settle-keeps}
+use Rattle.rules.proofs.Sites.{Site, siteAt, siteAfter, Placed, SiteSound}
+use Rattle.rules.proofs.Steps.{ListSound, list-with, made, unless-step, siteDone, siteAfter-done, placed-after, settle-readable, readable-cons}
+
+module _ (earlier : List Made) (L : ListSound earlier) (i : ℕ) (payload : List ℕ) (lifetime : ℕ) (output buffer : List ℕ) where
+  abbrev site : Site
+  site = siteAt i earlier
+
+  abbrev p : Panel
+  p = recordAt i earlier
+
+  abbrev m : Message
+  m = newMessage p payload lifetime
+
+  abbrev result : Result
+  result = done (sending p payload lifetime) output (frame width m) buffer
+
+  -- the frame as it stands in the buffer, with the log just before
+  new : Sent
+  new = record { frame = take (length (frame width m)) (over buffer 0 (frame width m)); past = logAt i earlier }
+
+  carried-new : Readable width m → carried new ≡ m
+  unfolding new
+  carried-new r = ap (messageIn width) (take-over buffer (frame width m)) ∙ frame-message width m (omega arith, omega arith) r
+
+  new-new : Readable width m → New (sends earlier) m (logAt i earlier)
+  unfolding newMessage sendDeadline
+  new-new r =
+      let G = L .sites i in
+      let K = G .sound .summary in
+      record {
+        readable = r;
+        rising = λ x k. omega (arith, K .below-high x k);
+        own = λ s k q. G .mine s k (q ∙ G .own);
+        known = G .sound .log-sound .known;
+        entry = K .barrier-logged;
+        cover = K .barrier-covers;
+      }
+
+  own-source : m .source ≡ i
+  unfolding newMessage
+  own-source = L .sites i .own
+
+  alive : limit p ≤ m .deadline
+  unfolding newMessage
+  alive = limit-sendDeadline p lifetime
+
+  -- a send that passes the checks
+  module _ (P : SendPassed p payload lifetime output buffer) (bytes : Bytes payload) where
+    readable : Readable width m
+    readable = new-readable p payload lifetime output buffer P (L .sites i .sound .summary .barrier-64) bytes
+
+    new-carried : New (sends earlier) (carried new) (new .past)
+    unfolding new
+    new-carried = subst⁻¹ (λ x. New (sends earlier) x (logAt i earlier)) (carried-new readable) (new-new readable)
+
+    sends-sound : SendsSound (new ∷ sends earlier)
+    sends-sound = sends-more (L .sends-sound) new new-carried
+
+    handed-sound : PanelSound (new ∷ sends earlier) (logAt i earlier ++ (nameOf m ∷ [])) (hand (emptied p) m)
+    unfolding new
+    handed-sound =
+        subst (λ x. PanelSound (new ∷ sends earlier) (logAt i earlier ++ (nameOf x ∷ [])) (hand (emptied p) x)) (carried-new readable)
+        (own-sound (L .sends-sound) new new-carried p (L .sites i .sound) (subst⁻¹ (λ (x : Message). limit p ≤ x .deadline) (carried-new readable) alive))
+
+    keeps : Keeps (new ∷ sends earlier) (logAt i earlier) p (sending p payload lifetime)
+    unfolding sending handAndSettle
+    keeps = keeps-hand (emptied p) m (λ w k. inr k) (settle-keeps sends-sound (hand (emptied p) m) _ handed-sound)
+
+    handed-readable : EachReadable (sending p payload lifetime .handed)
+    unfolding sending handAndSettle hand
+    handed-readable = readable-cons readable (settle-readable (hand (emptied p) m) (P .valid .waiting))
+
+    site-sound : SiteSound (new ∷ sends earlier) i (siteDone site (sending p payload lifetime) (name new ∷ site .sent) (site .taken) (site .time))
+    unfolding sending handAndSettle hand
+    site-sound =
+        let G = L .sites i in
+        let T = settle-settles (hand (emptied p) m) in
+        record {
+          own = T .own ∙ G .own;
+          time = T .time ∙ G .time;
+          sound = keeps .sound;
+          few = omega (arith, T .count, G .few);
+          settled = T .settled;
+          placed = placed;
+          mine = mine;
+        }
+      where
+        in-log : name new isIn logWith (logAt i earlier) (sending p payload lifetime .handed)
+        in-log = Memᴰ·append-right (logAt i earlier) (first (ap nameOf (carried-new readable)))
+
+        placed : (n : Name) → (n isIn name new ∷ site .sent) ⊎ (n isIn site .taken)
+            → Placed (logWith (logAt i earlier) (sending p payload lifetime .handed)) (sending p payload lifetime .panel .waiting) (site .time) n
+        placed n (inl (first e)) = inl (Memᴰ·cast e in-log)
+        placed n (inl (later k)) = placed-after keeps n (L .sites i .placed n (inl k))
+        placed n (inr k) = placed-after keeps n (L .sites i .placed n (inr k))
+
+        mine : (s : Sent) → s isIn new ∷ sends earlier → name s .source ≡ i → name s isIn logWith (logAt i earlier) (sending p payload lifetime .handed)
+        mine s (first e) q = Memᴰ·cast (ap name e) in-log
+        mine s (later k) q = Memᴰ·append-left _ (L .sites i .mine s k q)
+
+    others : (j : ℕ) → j ≢ i → SiteSound (new ∷ sends earlier) j (siteAt j earlier)
+    others j other =
+        let G = L .sites j in
+        record {
+          own = G .own;
+          time = G .time;
+          sound = panel-more (L .sends-sound) new new-carried (G .sound);
+          few = G .few;
+          settled = G .settled;
+          placed = G .placed;
+          mine = mine;
+        }
+      where
+        mine : (s : Sent) → s isIn new ∷ sends earlier → name s .source ≡ j → name s isIn logAt j earlier
+        mine s (first e) q =
+            absurd (other (sym q ∙ ap (λ (a : Sent). name a .source) e ∙ ap (λ (x : Message). x .source) (carried-new readable) ∙ own-source))
+        mine s (later k) q = L .sites j .mine s k q
+
+    sends-done : sends (made i (send payload lifetime output buffer) result ∷ earlier) ≡ new ∷ sends earlier
+    unfolding sends framesSent done new
+    sends-done = refl
+
+    site-done : siteAfter site (send payload lifetime output buffer) result
+        ≡ siteDone site (sending p payload lifetime) (name new ∷ site .sent) (site .taken) (site .time)
+    unfolding framesSent framesTaken timeAfter done new
+    site-done = siteAfter-done site (send payload lifetime output buffer) (sending p payload lifetime) output (frame width m) buffer handed-readable
+
+    done-sound : ListSound (made i (send payload lifetime output buffer) result ∷ earlier)
+    done-sound =
+        list-with _ earlier (new ∷ sends earlier) sends-done sends-sound (subst⁻¹ (SiteSound (new ∷ sends earlier) i) site-done site-sound) others
+
+  pub send-step : Bytes payload → ListSound (made i (send payload lifetime output buffer) (defined p (send payload lifetime output buffer)) ∷ earlier)
+  unfolding defined
+  send-step bytes =
+      unless-step earlier L i (send payload lifetime output buffer) (firstOf (sendChecks p payload lifetime output buffer)) output buffer result
+      (λ e. done-sound (send-passed p payload lifetime output buffer e) bytes)

@@ -1,0 +1,99 @@
+-- Each call, refused or not, keeps what holds of a list. Assumes nothing.
+use Prim.Native.Nat.{ℕ, zero, suc, _+_, _≤_, _<_}
+use native.Mathlib.Decide.{ℕ-discrete}
+use native.Mathlib.Omega.{arith}
+use mathlib.Core.Path.{_≡_, refl, sym, ap, _∙_, subst⁻¹}
+use mathlib.Core.Logic.{_⊎_, inl, inr, ⊎-elim, _≢_, by-cases}
+use mathlib.Core.Bool.{Bool, true, false}
+use mathlib.Core.List.{List, [], _∷_, _++_, map, List·Memᴰ·head as first, List·Memᴰ·tail as later, Memᴰ·append-left, Memᴰ·append-right, Memᴰ·cast}
+use lib.ListN.{length}
+use lib.Dec.{eqb·suc-zero}
+use Rattle.frame.specs.Message.{Message}
+use Rattle.frame.proofs.Readable.{Readable}
+use Rattle.rules.specs.Sizes.{width}
+use Rattle.rules.specs.Panel.{Name, nameOf, Panel}
+use Rattle.rules.specs.Settling.{Settled, settle}
+use Rattle.rules.specs.Results.{Call, send, receive, clock, Result, refused, done, unless}
+use Rattle.rules.specs.Lists.{_isIn_, Made, recordAt, framesSent, framesTaken, nameIn, timeAfter, Sent, sends}
+use Rattle.rules.proofs.LogRecords.{EachReadable, namesIn-over}
+use Rattle.rules.proofs.Settling.{settle-settles}
+use Rattle.rules.proofs.Cause.{name, SendsSound}
+use Rattle.rules.proofs.Keeping.{logWith, Keeps}
+use Rattle.rules.proofs.Sites.{Site, siteAt, siteAfter, siteAt-here, siteAt-other, siteAfter-refused, Placed, SiteSound}
+
+pub record ListSound (list : List Made) : Type 0 where
+  pub sends-sound : SendsSound (sends list)
+  pub sites : (i : ℕ) → SiteSound (sends list) i (siteAt i list)
+
+-- ---- one more call
+
+-- from what holds of the messages sent, of the panel that was called, and of the others
+pub list-with : (made : Made) (earlier : List Made) (ss : List Sent) → sends (made ∷ earlier) ≡ ss → SendsSound ss
+    → SiteSound ss (made .at) (siteAfter (siteAt (made .at) earlier) (made .call) (made .result))
+    → ((i : ℕ) → i ≢ made .at → SiteSound ss i (siteAt i earlier)) → ListSound (made ∷ earlier)
+list-with made earlier ss e S here others =
+    record { sends-sound = subst⁻¹ SendsSound e S; sites = λ i. subst⁻¹ (λ ts. SiteSound ts i (siteAt i (made ∷ earlier))) e (site i) }
+  where
+    site : (i : ℕ) → SiteSound ss i (siteAt i (made ∷ earlier))
+    site i =
+        by-cases (ℕ-discrete i (made .at))
+        (λ q. subst⁻¹ (λ j. SiteSound ss j (siteAt j (made ∷ earlier))) q (subst⁻¹ (SiteSound ss (made .at)) (siteAt-here made earlier) here))
+        (λ q. subst⁻¹ (SiteSound ss i) (siteAt-other i made earlier q) (others i q))
+
+-- the call on panel i that gave this result
+abbrev pub made : ℕ → Call → Result → Made
+made i call result = record { at = i; call = call; result = result }
+
+module _ (earlier : List Made) (L : ListSound earlier) (i : ℕ) (call : Call) where
+  -- a refused call
+  sends-refused : (c : Call) (output buffer : List ℕ) (n : ℕ) → sends (made i c (refused (recordAt i earlier) output buffer (suc n)) ∷ earlier) ≡ sends earlier
+  unfolding sends framesSent refused
+  sends-refused (send payload lifetime output′ buffer′) output buffer n = rw (eqb·suc-zero n) refl
+  sends-refused (receive bytes output′) output buffer n = refl
+  sends-refused (clock time output′) output buffer n = refl
+
+  -- a call with that number of its refusal, where all is well if it is 0
+  pub unless-step : (number : ℕ) (output buffer : List ℕ) (result : Result) → (number ≡ 0 → ListSound (made i call result ∷ earlier))
+      → ListSound (made i call (unless number (refused (recordAt i earlier) output buffer) result) ∷ earlier)
+  unfolding unless
+  unless-step zero output buffer result h = h refl
+  unless-step (suc n) output buffer result h =
+      list-with _ earlier (sends earlier) (sends-refused call output buffer n) (L .sends-sound)
+      (subst⁻¹ (SiteSound (sends earlier) i) (siteAfter-refused (siteAt i earlier) call output buffer n) (L .sites i)) (λ j _. L .sites j)
+
+-- ---- a call that is not refused
+
+-- its panel's site, with the log that the messages handed give
+abbrev pub siteDone : Site → Settled → List Name → List Name → ℕ → Site
+siteDone s settled sent taken time =
+    record { panel = settled .panel; log = logWith (s .log) (settled .handed); sent = sent; taken = taken; time = time }
+
+pub siteAfter-done : (s : Site) (call : Call) (settled : Settled) (output frame buffer : List ℕ) → EachReadable (settled .handed)
+    → let result = done settled output frame buffer in
+    siteAfter s call result
+    ≡ siteDone s settled (map nameIn (framesSent call result) ++ s .sent) (map nameIn (framesTaken call result) ++ s .taken) (timeAfter (s .time) call result)
+unfolding done
+siteAfter-done s call settled output frame buffer r =
+    let result = done settled output frame buffer in
+    λ j. record {
+      panel = settled .panel;
+      log = s .log ++ namesIn-over (settled .handed) output r j;
+      sent = map nameIn (framesSent call result) ++ s .sent;
+      taken = map nameIn (framesTaken call result) ++ s .taken;
+      time = timeAfter (s .time) call result;
+    }
+
+-- a message that had its place has one after settling
+pub placed-after : {ss : List Sent} {log : List Name} {p : Panel} {settled : Settled} {time : ℕ} → Keeps ss log p settled
+    → (n : Name) → Placed log (p .waiting) time n → Placed (logWith log (settled .handed)) (settled .panel .waiting) time n
+placed-after K n (inl i) = inl (Memᴰ·append-left _ i)
+placed-after K n (inr (inl (w, i, e))) = ⊎-elim (λ a. inl (Memᴰ·cast (sym e) a)) (λ a. inr (inl (w, a, e))) (K .rest w i)
+placed-after K n (inr (inr lapsed)) = inr (inr lapsed)
+
+-- what is handed by settling is readable where what waits is
+pub settle-readable : (p : Panel) → EachReadable (p .waiting) → EachReadable (settle p .handed)
+settle-readable p r m i = r m (settle-settles p .handed m i)
+
+pub readable-cons : {m : Message} {ms : List Message} → Readable width m → EachReadable ms → EachReadable (m ∷ ms)
+readable-cons r rs w (first e) = rw e r
+readable-cons r rs w (later i) = rs w i

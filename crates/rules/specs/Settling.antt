@@ -1,0 +1,64 @@
+-- Document 01, "The panel record": settling.
+use Prim.Native.Nat.{ℕ, zero, suc}
+use mathlib.Core.Bool.{Bool, true, false, cond, _&&_, _||_}
+use mathlib.Core.Option.{Option, none, some}
+use mathlib.Core.List.{List, [], _∷_, _++_}
+use lib.ListN.{length, getD, take, drop}
+use lib.Dec.{ltb, eqb}
+use Rattle.frame.specs.Message.{Message, messageOf}
+use Rattle.rules.specs.Panel.{Panel, ready}
+use Rattle.rules.specs.Handing.{hand}
+
+-- of lower deadline, then of lower source
+unfoldable pub sooner : Message → Message → Bool
+sooner a b = ltb (a .deadline) (b .deadline) || eqb (a .deadline) (b .deadline) && ltb (a .source) (b .source)
+
+-- the place of the chosen one in m ∷ ms, where `later` is the place of the one chosen in ms: m, being earlier, where it is ready and that one
+-- is not sooner
+unfoldable pub chosen : Bool → Message → List Message → Option ℕ → Option ℕ
+chosen true m ms none = some 0
+chosen true m ms (some later) = cond (sooner (getD ms later m) m) (some (suc later)) (some 0)
+chosen false m ms none = none
+chosen false m ms (some later) = some (suc later)
+
+-- the place of the ready one of lowest deadline (then lowest source, then earliest in the list); none where no message is ready
+unfoldable pub choice : Panel → List Message → Option ℕ
+choice p [] = none
+choice p (m ∷ ms) = chosen (ready p m) m ms (choice p ms)
+
+-- the list without what stands at a place
+unfoldable pub without : ℕ → List Message → List Message
+without place ms = take place ms ++ drop (suc place) ms
+
+abbrev pub withWaiting : Panel → List Message → Panel
+withWaiting p ms = record { own = p .own; time = p .time; high = p .high; marks = p .marks; barrier = p .barrier; waiting = ms }
+
+-- a record, and the messages that were handed on the way to it, in order
+pub record Settled : Type 0 where
+  pub panel : Panel
+  pub handed : List Message
+
+-- the message at a place of the waiting list (past its end, where no choice lies, one that no frame carries)
+abbrev pub waitingAt : Panel → ℕ → Message
+waitingAt p place = getD (p .waiting) place (messageOf 0 0 [] [])
+
+-- the message at a place leaves the list and is handed
+abbrev pub handAt : Panel → ℕ → Panel
+handAt p place = hand (withWaiting p (without place (p .waiting))) (waitingAt p place)
+
+-- and settling goes on with the record that is left
+unfoldable pub goOn : (Panel → Settled) → Panel → Option ℕ → Settled
+goOn settle p none = record { panel = p; handed = [] }
+goOn settle p (some place) =
+    let rest = settle (handAt p place) in
+    record { panel = rest .panel; handed = waitingAt p place ∷ rest .handed }
+
+-- settling, at most so many times
+unfoldable pub settleIn : ℕ → Panel → Settled
+settleIn zero p = record { panel = p; handed = [] }
+settleIn (suc n) p = goOn (settleIn n) p (choice p (p .waiting))
+
+-- Settling: while some waiting message is ready, the chosen one leaves the list and is handed. Each time one leaves, so that as many times as
+-- messages wait are enough (`settle-done`).
+unfoldable pub settle : Panel → Settled
+settle p = settleIn (length (p .waiting)) p

@@ -86,6 +86,18 @@ firstOf-append (c ∷ checks) more r e =
     let rest = firstOf-append checks more (refuses .1) (t .1) in
     (rw (t .0) (rest .0), rest .1)
 
+-- ---- what holds of 0 and of each number of the table holds of the first that applies
+
+unfoldable pub eachNumber : (ℕ → Bool) → List (Bool × ℕ) → Bool
+eachNumber test [] = true
+eachNumber test (check ∷ checks) = test (check .1) && eachNumber test checks
+
+pub firstOf-each : (test : ℕ → Bool) (checks : List (Bool × ℕ)) → test 0 ≡ true → eachNumber test checks ≡ true → test (firstOf checks) ≡ true
+unfolding firstOf eachNumber
+firstOf-each test [] none each = none
+firstOf-each test ((true, n) ∷ checks) none each = and-both (test n) (eachNumber test checks) each .0
+firstOf-each test ((false, n) ∷ checks) none each = firstOf-each test checks none (and-both (test n) (eachNumber test checks) each .1)
+
 pub firstOf-take : (checks : List (Bool × ℕ)) (n : ℕ) → (firstOf (take n checks) ≡ 0 → ⊥) → firstOf (take n checks) ≡ firstOf checks
 unfolding firstOf
 firstOf-take checks zero h = absurd (h refl)

@@ -15,13 +15,13 @@ use Rattle.rules.specs.Results.{clock, done, defined}
 use Rattle.rules.specs.Lists.{_isIn_, Made, recordAt, framesSent, framesTaken, timeAfter, logAt, sends}
 use Rattle.rules.proofs.Ready.{limit, limit-time, dead, dead-withTime, limit-withTime}
 use Rattle.rules.proofs.WaitingList.{isIn-alive, alive-isIn, Distinct-alive, length-alive}
-use Rattle.rules.proofs.LogRecords.{EachReadable}
+use Rattle.rules.proofs.Handed.{clocking-readable}
 use Rattle.rules.proofs.Checks.{Valid, ClockPassed, clock-passed}
 use Rattle.rules.proofs.Settling.{settle-settles}
 use Rattle.rules.proofs.Sound.{LogSound, WaitingSound, PanelSound}
 use Rattle.rules.proofs.Keeping.{logWith, Keeps, sound-withWaiting, settle-keeps}
 use Rattle.rules.proofs.Sites.{Site, siteAt, siteAfter, Placed, SiteSound}
-use Rattle.rules.proofs.Steps.{ListSound, list-with, made, unless-step, siteDone, siteAfter-done, placed-after, settle-readable}
+use Rattle.rules.proofs.Steps.{ListSound, list-with, made, unless-step, siteDone, siteAfter-done, placed-after}
 
 module _ (earlier : List Made) (L : ListSound earlier) (i : ℕ) (time : ℕ) (output : List ℕ) where
   abbrev site : Site
@@ -87,17 +87,13 @@ module _ (earlier : List Made) (L : ListSound earlier) (i : ℕ) (time : ℕ) (o
           mine = λ s k e. Memᴰ·append-left _ (G .mine s k e);
         }
 
-    clocking-readable : EachReadable (clocking p time .handed)
-    unfolding clocking
-    clocking-readable = settle-readable q (λ w k. P .valid .waiting w (isIn-alive (withTime p time) (p .waiting) w k .0))
-
     sends-done : sends (made i (clock time output) (done (clocking p time) output [] []) ∷ earlier) ≡ sends earlier
     unfolding sends framesSent
     sends-done = refl
 
     site-done : siteAfter site (clock time output) (done (clocking p time) output [] []) ≡ siteDone site (clocking p time) (site .sent) (site .taken) time
     unfolding framesSent framesTaken timeAfter done
-    site-done = siteAfter-done site (clock time output) (clocking p time) output [] [] clocking-readable
+    site-done = siteAfter-done site (clock time output) (clocking p time) output [] [] (clocking-readable p time (P .valid .waiting))
 
     done-sound : ListSound (made i (clock time output) (done (clocking p time) output [] []) ∷ earlier)
     done-sound =

@@ -1,11 +1,14 @@
+-- The bench cases; laws of the definitions; what holds of a panel and of every list of calls, step by step; and the theorems.
+pub mod BenchCases
 pub mod Booleans
 pub mod Ready
 pub mod Raise
-pub mod Choice
 pub mod WaitingList
+pub mod Choice
 pub mod Settling
 pub mod LogRecords
 pub mod Checks
+pub mod Handed
 pub mod Cause
 pub mod Sound
 pub mod Handing
@@ -17,4 +20,5 @@ pub mod SendStep
 pub mod ReceiveStep
 pub mod ClockStep
 pub mod Reached
+pub mod Results
 pub mod Theorems

@@ -1,16 +1,20 @@
 -- What holds after every list of calls, and what it says of the log of a panel. Assumes nothing.
 use Prim.Native.Nat.{ℕ, _≤_, _<_}
+use native.Mathlib.Decide.{decLt}
 use native.Mathlib.Omega.{arith}
 use mathlib.Core.Path.{_≡_, refl, sym, ap, _∙_, subst, subst⁻¹}
-use mathlib.Core.Logic.{_⊎_, inl, inr, ⊎-elim}
+use mathlib.Core.Logic.{_⊎_, inl, inr, ⊎-elim, by-cases}
 use mathlib.Core.List.{List, [], _∷_}
 use lib.ListN.{getD}
 use Rattle.frame.specs.Message.{Message}
+use Rattle.frame.proofs.Readable.{Readable}
+use Rattle.rules.specs.Sizes.{width}
 use Rattle.rules.specs.Panel.{Name, nameOf, Panel, none64, fresh}
 use Rattle.rules.specs.Results.{Call, send, receive, clock, Result, defined, Promised}
 use Rattle.rules.specs.Lists.{_isIn_, Made, recordAt, sentAt, takenAt, logAt, timeAt, LapsedAt, Sent, sends, Before, direct, Given, Lawful, AllPromised}
 use Rattle.rules.proofs.Ready.{limit, limit-time, dead, dead-limit, ready-false}
 use Rattle.rules.proofs.Raise.{getD-none64, length-none64}
+use Rattle.rules.proofs.Checks.{Valid}
 use Rattle.rules.proofs.Cause.{carried, named, nothing-sent}
 use Rattle.rules.proofs.Sound.{WasSent}
 use Rattle.rules.proofs.Sites.{Site, siteAt, SiteSound}
@@ -95,3 +99,23 @@ module _ (list : List Made) (L : ListSound list) (i : ℕ) where
   whole-logged n k live all =
       ⊎-elim (λ a. a) (⊎-elim (λ a. absurd (waits-for (a .0) (a .1) (λ x b. all x (subst (Before (sends list) x) (a .2) b)))) (λ a. absurd (live a)))
       (L .sites i .placed n k)
+
+-- ---- its record
+
+-- a list of deadlines of messages in the log is nowhere above high
+logged-high : (list : List Made) → ListSound list → (i : ℕ) (ns : List ℕ) → ((k : ℕ) → 0 < getD ns k 0 → named k (getD ns k 0) isIn logAt i list)
+    → (k : ℕ) → getD ns k 0 ≤ recordAt i list .high
+logged-high list L i ns logged k =
+    by-cases (decLt 0 (getD ns k 0)) (λ above. L .sites i .sound .summary .below-high _ (logged k above)) (λ zero. omega arith)
+
+pub reached-valid : (list : List Made) → ListSound list → (i : ℕ) → i < 64 → Valid (recordAt i list)
+reached-valid list L i lt =
+    let G = L .sites i in
+    let K = G .sound .summary in
+    record {
+      own = omega (arith, G .own);
+      marks = logged-high list L i (recordAt i list .marks) (K .mark-logged);
+      barrier = logged-high list L i (recordAt i list .barrier) (K .barrier-logged);
+      count = G .few;
+      waiting = λ w k. let (s, j, e) = G .sound .waits .sent w k in subst (Readable width) e (L .sends-sound .readable s j);
+    }

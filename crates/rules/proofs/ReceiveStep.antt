@@ -21,7 +21,7 @@ use Rattle.rules.specs.Lists.{_isIn_, Made, recordAt, framesSent, frames
 use Rattle.rules.proofs.Booleans.{cond-both}
 use Rattle.rules.proofs.Ready.{limit}
 use Rattle.rules.proofs.WaitingList.{isIn-end, Distinct-end}
-use Rattle.rules.proofs.LogRecords.{EachReadable}
+use Rattle.rules.proofs.Handed.{receiving-readable}
 use Rattle.rules.proofs.Checks.{Valid, ReceivePassed, receive-passed}
 use Rattle.rules.proofs.Settling.{settle-settles}
 use Rattle.rules.proofs.Cause.{name, SendsSound}
@@ -29,7 +29,7 @@ use Rattle.rules.proofs.Sound.{WasSent, WaitingSound, PanelSound}
 use Rattle.rules.proofs.Handing.{hand-ready}
 use Rattle.rules.proofs.Keeping.{logWith, Keeps, sound-withWaiting, keeps-hand, settle-keeps}
 use Rattle.rules.proofs.Sites.{Site, siteAt, siteAfter, Placed, SiteSound}
-use Rattle.rules.proofs.Steps.{ListSound, list-with, made, unless-step, siteDone, siteAfter-done, placed-after, settle-readable, readable-cons}
+use Rattle.rules.proofs.Steps.{ListSound, list-with, made, unless-step, siteDone, siteAfter-done, placed-after}
 
 module _ (earlier : List Made) (L : ListSound earlier) (i : ℕ) (bytes output : List ℕ) where
   abbrev site : Site
@@ -129,12 +129,6 @@ module _ (earlier : List Made) (L : ListSound earlier) (i : ℕ) (bytes output :
 
     -- ---- either way
 
-    receiving-readable : EachReadable (receiving p m .handed)
-    unfolding receiving handAndSettle hand
-    receiving-readable = cond-both (λ (s : Settled). EachReadable (s .handed)) (ready p m)
-        (λ _. readable-cons readable (settle-readable (hand p m) (P .valid .waiting)))
-        (λ _. settle-readable q (λ w k. ⊎-elim (P .valid .waiting w) (λ e. rw e readable) (isIn-end (p .waiting) k)))
-
     receiving-sound : SiteSound (sends earlier) i (siteDone site (receiving p m) (site .sent) (nameOf m ∷ site .taken) (site .time))
     unfolding receiving
     receiving-sound =
@@ -148,7 +142,7 @@ module _ (earlier : List Made) (L : ListSound earlier) (i : ℕ) (bytes output :
     site-done : siteAfter site (receive bytes output) (done (receiving p m) output [] [])
         ≡ siteDone site (receiving p m) (site .sent) (nameOf m ∷ site .taken) (site .time)
     unfolding framesSent framesTaken timeAfter done
-    site-done = siteAfter-done site (receive bytes output) (receiving p m) output [] [] receiving-readable
+    site-done = siteAfter-done site (receive bytes output) (receiving p m) output [] [] (receiving-readable p m (P .valid .waiting) readable)
 
     done-sound : ListSound (made i (receive bytes output) (done (receiving p m) output [] []) ∷ earlier)
     done-sound =

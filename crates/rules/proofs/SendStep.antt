@@ -24,14 +24,14 @@ use Rattle.rules.specs.Results.{Call, send, Result, done, defined}
 use Rattle.rules.specs.Lists.{_isIn_, Made, recordAt, framesSent, framesTaken, nameIn, timeAfter, logAt, Sent, sends}
 use Rattle.rules.proofs.Ready.{limit, limit-sendDeadline}
 use Rattle.rules.proofs.Checks.{Valid, SendPassed, send-passed, new-readable}
-use Rattle.rules.proofs.LogRecords.{EachReadable}
+use Rattle.rules.proofs.Handed.{sending-readable}
 use Rattle.rules.proofs.Settling.{settle-settles}
 use Rattle.rules.proofs.Cause.{carried, name, SendsSound}
 use Rattle.rules.proofs.Sound.{PanelSound}
 use Rattle.rules.proofs.Sending.{New, sends-more, panel-more, own-sound}
 use Rattle.rules.proofs.Keeping.{logWith, Keeps, keeps-hand, settle-keeps}
 use Rattle.rules.proofs.Sites.{Site, siteAt, siteAfter, Placed, SiteSound}
-use Rattle.rules.proofs.Steps.{ListSound, list-with, made, unless-step, siteDone, siteAfter-done, placed-after, settle-readable, readable-cons}
+use Rattle.rules.proofs.Steps.{ListSound, list-with, made, unless-step, siteDone, siteAfter-done, placed-after}
 
 module _ (earlier : List Made) (L : ListSound earlier) (i : ℕ) (payload : List ℕ) (lifetime : ℕ) (output buffer : List ℕ) where
   abbrev site : Site
@@ -98,10 +98,6 @@ module _ (earlier : List Made) (L : ListSound earlier) (i : ℕ) (payload : List
     unfolding sending handAndSettle
     keeps = keeps-hand (emptied p) m (λ w k. inr k) (settle-keeps sends-sound (hand (emptied p) m) _ handed-sound)
 
-    handed-readable : EachReadable (sending p payload lifetime .handed)
-    unfolding sending handAndSettle hand
-    handed-readable = readable-cons readable (settle-readable (hand (emptied p) m) (P .valid .waiting))
-
     site-sound : SiteSound (new ∷ sends earlier) i (siteDone site (sending p payload lifetime) (name new ∷ site .sent) (site .taken) (site .time))
     unfolding sending handAndSettle hand
     site-sound =
@@ -155,7 +151,8 @@ module _ (earlier : List Made) (L : ListSound earlier) (i : ℕ) (payload : List
     site-done : siteAfter site (send payload lifetime output buffer) result
         ≡ siteDone site (sending p payload lifetime) (name new ∷ site .sent) (site .taken) (site .time)
     unfolding framesSent framesTaken timeAfter done new
-    site-done = siteAfter-done site (send payload lifetime output buffer) (sending p payload lifetime) output (frame width m) buffer handed-readable
+    site-done = siteAfter-done site (send payload lifetime output buffer) (sending p payload lifetime) output (frame width m) buffer
+        (sending-readable p payload lifetime (P .valid .waiting) readable)
 
     done-sound : ListSound (made i (send payload lifetime output buffer) result ∷ earlier)
     done-sound =

@@ -9,14 +9,11 @@ use mathlib.Core.List.{List, [], _∷_, _++_, map, List·Memᴰ·head as first, 
 use lib.ListN.{length}
 use lib.Dec.{eqb·suc-zero}
 use Rattle.frame.specs.Message.{Message}
-use Rattle.frame.proofs.Readable.{Readable}
-use Rattle.rules.specs.Sizes.{width}
 use Rattle.rules.specs.Panel.{Name, nameOf, Panel}
 use Rattle.rules.specs.Settling.{Settled, settle}
 use Rattle.rules.specs.Results.{Call, send, receive, clock, Result, refused, done, unless}
 use Rattle.rules.specs.Lists.{_isIn_, Made, recordAt, framesSent, framesTaken, nameIn, timeAfter, Sent, sends}
 use Rattle.rules.proofs.LogRecords.{EachReadable, namesIn-over}
-use Rattle.rules.proofs.Settling.{settle-settles}
 use Rattle.rules.proofs.Cause.{name, SendsSound}
 use Rattle.rules.proofs.Keeping.{logWith, Keeps}
 use Rattle.rules.proofs.Sites.{Site, siteAt, siteAfter, siteAt-here, siteAt-other, siteAfter-refused, Placed, SiteSound}
@@ -89,11 +86,3 @@ pub placed-after : {ss : List Sent} {log : List Name} {p : Panel} {settled : Set
 placed-after K n (inl i) = inl (Memᴰ·append-left _ i)
 placed-after K n (inr (inl (w, i, e))) = ⊎-elim (λ a. inl (Memᴰ·cast (sym e) a)) (λ a. inr (inl (w, a, e))) (K .rest w i)
 placed-after K n (inr (inr lapsed)) = inr (inr lapsed)
-
--- what is handed by settling is readable where what waits is
-pub settle-readable : (p : Panel) → EachReadable (p .waiting) → EachReadable (settle p .handed)
-settle-readable p r m i = r m (settle-settles p .handed m i)
-
-pub readable-cons : {m : Message} {ms : List Message} → Readable width m → EachReadable ms → EachReadable (m ∷ ms)
-readable-cons r rs w (first e) = rw e r
-readable-cons r rs w (later i) = rs w i

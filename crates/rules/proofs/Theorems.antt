@@ -1,14 +1,33 @@
--- What is shown of lists of calls as a whole. Assumes nothing.
+-- What is shown of one call, of settling and of every list of calls. Assumes nothing.
 use Prim.Native.Nat.{ℕ, _≤_, _<_}
+use native.Mathlib.Omega.{arith}
 use mathlib.Core.Path.{_≡_, refl}
-use mathlib.Core.Bool.{true, false}
+use mathlib.Core.Logic.{_⊎_, inl, inr, ⊎-elim, _≢_}
+use mathlib.Core.Bool.{true, false, _||_}
 use mathlib.Core.List.{List, [], _∷_}
-use Rattle.rules.specs.Results.{Call}
-use Rattle.rules.specs.Lists.{Made, Lawful, AllPromised, ran}
+use lib.ListN.{length}
+use lib.Dec.{eqb}
+use borrow.Author.Tests.{eqb-true}
+use Rattle.numbers.proofs.Over.{length-over}
+use Rattle.frame.specs.Message.{Message}
+use Rattle.frame.proofs.FirstOf.{firstOf-each}
+use Rattle.rules.specs.Panel.{Panel, ready}
+use Rattle.rules.specs.Handing.{logRecords}
+use Rattle.rules.specs.Settling.{settle}
+use Rattle.rules.specs.Refusals.{isRefusal}
+use Rattle.rules.specs.Results.{Call, outputOf, bufferOf, checksOf, effectOf, frameOf, refused, done, defined}
+use Rattle.rules.specs.Lists.{_isIn_, Made, recordAt, Lawful, AllPromised, ran}
 use Rattle.rules.specs.Demand3.{Demand3}
-use Rattle.rules.proofs.Reached.{list-sound, logged-whole, whole-logged}
+use Rattle.rules.proofs.Booleans.{or-either}
+use Rattle.rules.proofs.Settling.{settle-settles}
+use Rattle.rules.proofs.Handed.{effect-count}
+use Rattle.rules.proofs.Checks.{false-broken}
+use Rattle.rules.proofs.Results.{defined-both, defined-number, passed-valid, BytesOf, output-fits, buffer-fits, checks-listed, number-26}
+use Rattle.rules.proofs.Reached.{list-sound, logged-whole, whole-logged, reached-valid}
 
--- Demand 3: after every list of calls that each gave what it promises.
+-- ---- demand 3
+
+-- After every list of calls that each gave what it promises.
 pub demand-3 : (list : List Made) → Lawful list → AllPromised list → Demand3 list
 demand-3 list lawful promised =
     let L = list-sound list lawful promised in
@@ -23,6 +42,53 @@ ran-promised : (calls : List (ℕ × Call)) → AllPromised (ran calls)
 ran-promised [] = tt
 ran-promised (next ∷ earlier) = (refl, ran-promised earlier)
 
--- Demand 3: after every list of calls that each give what document 01 defines.
+-- After every list of calls that each give what document 01 defines.
 pub every-list : (calls : List (ℕ × Call)) → Lawful (ran calls) → Demand3 (ran calls)
 every-list calls lawful = demand-3 (ran calls) lawful (ran-promised calls)
+
+-- A record reached by a list is never refused with 26.
+pub never-26 : (list : List Made) → Lawful list → AllPromised list → (panel : ℕ) → panel < 64
+    → (call : Call) → defined (recordAt panel list) call .number ≢ 26
+never-26 list lawful promised panel lt call =
+    number-26 (recordAt panel list) call
+    (false-broken (recordAt panel list) (reached-valid list (list-sound list lawful promised) panel lt))
+
+-- ---- settling
+
+-- Settling ends with nothing ready waiting.
+pub settle-done : (p : Panel) (w : Message) → w isIn settle p .panel .waiting → ready (settle p .panel) w ≡ false
+settle-done p = settle-settles p .settled
+
+-- ---- one call, on any record
+
+-- The answer is 0 or one of the numbers of document 01.
+pub number-listed : (p : Panel) (call : Call) → (defined p call .number ≡ 0) ⊎ (isRefusal (defined p call .number) ≡ true)
+number-listed p call =
+    ⊎-elim (λ e. inl (eqb-true (defined p call .number) 0 e)) (λ e. inr e)
+    (or-either (eqb (defined p call .number) 0) (isRefusal (defined p call .number))
+    (rw (defined-number p call) (firstOf-each (λ n. eqb n 0 || isRefusal n) (checksOf p call) refl (checks-listed p call))))
+
+-- A refusal gives back the record as it was and alters no byte of a lent buffer; every count and length is 0.
+pub refusal-unchanged : (p : Panel) (call : Call) → defined p call .number ≢ 0
+    → defined p call ≡ refused p (outputOf call) (bufferOf call) (defined p call .number)
+unfolding refused done
+refusal-unchanged p call =
+    defined-both (λ r. r .number ≢ 0 → r ≡ refused p (outputOf call) (bufferOf call) (r .number)) p call (λ n e q. refl) (λ e q. absurd (q refl))
+
+-- At most 33 log records a call.
+pub count-33 : (p : Panel) (call : Call) → defined p call .count ≤ 33
+unfolding refused done
+count-33 p call =
+    defined-both (λ r. r .count ≤ 33) p call (λ n e. omega arith) (λ e. effect-count p call (passed-valid p call e .0 .count))
+
+-- No buffer is written past its end: each keeps its length. (A record has 64 barrier entries, and what is given to a call is bytes.)
+pub lengths-kept : (p : Panel) (call : Call) → length (p .barrier) ≡ 64 → BytesOf call
+    → (length (defined p call .output) ≡ length (outputOf call)) × (length (defined p call .buffer) ≡ length (bufferOf call))
+unfolding refused done
+lengths-kept p call len bytes =
+    defined-both (λ r. (length (r .output) ≡ length (outputOf call)) × (length (r .buffer) ≡ length (bufferOf call))) p call
+    (λ n e. (refl, refl))
+    (λ e. (
+      length-over (outputOf call) 0 (logRecords (effectOf p call .handed)) (omega (arith, output-fits p call len bytes e)),
+      length-over (bufferOf call) 0 (frameOf p call) (omega (arith, buffer-fits p call len bytes e)),
+    ))

@@ -8,3 +8,4 @@ pub mod Refusals
 pub mod Results
 pub mod Lists
 pub mod Demand3
+pub mod BenchCases

@@ -70,3 +70,8 @@ clockChecks p time output =
     ∷ (ltb (length output) outputLength, 10)
     ∷ (ltb time (p .time), 25)  -- the clock reading is below the panel's time
     ∷ []
+
+-- ---- the numbers of the two lists that a call can answer (11 is that of asking for a fresh panel)
+
+abbrev pub isRefusal : ℕ → Bool
+isRefusal n = leb 1 n && leb n 10 || leb 20 n && leb n 26

@@ -1,6 +1,7 @@
 -- What each call answers, gives back, and leaves in the buffers lent to it.
 use Prim.Native.Nat.{ℕ, zero, suc}
 use mathlib.Core.Path.{_≡_}
+use mathlib.Core.Bool.{Bool}
 use mathlib.Core.List.{List, []}
 use lib.ListN.{length}
 use Rattle.numbers.specs.Buffer.{over}
@@ -14,11 +15,44 @@ use Rattle.rules.specs.Settling.{Settled}
 use Rattle.rules.specs.Calls.{newMessage, sending, receiving, clocking}
 use Rattle.rules.specs.Refusals.{sendChecks, receiveChecks, clockChecks}
 
+-- ---- calls
+
 -- a call, with the bytes given and lent to it
 pub data Call : Type 0 where
   send : (payload : List ℕ) (lifetime : ℕ) (output buffer : List ℕ) → Call
   receive : (bytes output : List ℕ) → Call
   clock : (time : ℕ) (output : List ℕ) → Call
+
+-- the buffers lent to it; a receive and a clock call have no frame buffer
+abbrev pub outputOf : Call → List ℕ
+outputOf (send payload lifetime output buffer) = output
+outputOf (receive bytes output) = output
+outputOf (clock time output) = output
+
+abbrev pub bufferOf : Call → List ℕ
+bufferOf (send payload lifetime output buffer) = buffer
+bufferOf (receive bytes output) = []
+bufferOf (clock time output) = []
+
+-- its checks
+abbrev pub checksOf : Panel → Call → List (Bool × ℕ)
+checksOf p (send payload lifetime output buffer) = sendChecks p payload lifetime output buffer
+checksOf p (receive bytes output) = receiveChecks p bytes output
+checksOf p (clock time output) = clockChecks p time output
+
+-- what it does to the record, and which messages it hands
+abbrev pub effectOf : Panel → Call → Settled
+effectOf p (send payload lifetime output buffer) = sending p payload lifetime
+effectOf p (receive bytes output) = receiving p (messageIn width bytes)
+effectOf p (clock time output) = clocking p time
+
+-- the frame that it writes: that of a send
+abbrev pub frameOf : Panel → Call → List ℕ
+frameOf p (send payload lifetime output buffer) = frame width (newMessage p payload lifetime)
+frameOf p (receive bytes output) = []
+frameOf p (clock time output) = []
+
+-- ---- results
 
 -- the answer's number (0 where the call was not turned down), the record given back, the count of log records, all bytes of the output, the
 -- length of the frame that a send wrote, all bytes of its frame buffer
@@ -53,15 +87,11 @@ unfoldable pub unless : ℕ → (ℕ → Result) → Result → Result
 unless zero refused done = done
 unless (suc n) refused done = refused (suc n)
 
--- the result that document 01 defines; a receive and a clock call have no frame buffer
+-- the result that document 01 defines
 unfoldable pub defined : Panel → Call → Result
-defined p (send payload lifetime output buffer) =
-    unless (firstOf (sendChecks p payload lifetime output buffer)) (refused p output buffer)
-    (done (sending p payload lifetime) output (frame width (newMessage p payload lifetime)) buffer)
-defined p (receive bytes output) =
-    unless (firstOf (receiveChecks p bytes output)) (refused p output []) (done (receiving p (messageIn width bytes)) output [] [])
-defined p (clock time output) =
-    unless (firstOf (clockChecks p time output)) (refused p output []) (done (clocking p time) output [] [])
+defined p call =
+    unless (firstOf (checksOf p call)) (refused p (outputOf call) (bufferOf call))
+    (done (effectOf p call) (outputOf call) (frameOf p call) (bufferOf call))
 
 -- What a call promises of its result: the answer, the record given back and all bytes of each lent buffer are as defined.
 abbrev pub Promised : Panel → Call → Result → Type 0

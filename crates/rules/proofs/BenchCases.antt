@@ -1,0 +1,28 @@
+-- The bench cases hold of the definitions: each is computed. Assumes nothing.
+use mathlib.Core.Path.{refl}
+use mathlib.Core.List.{flatten}
+use lib.Count.{onesIn}
+use Rattle.numbers.specs.Numbers.{bigEndian, bigEndians, number, numberAt, numbersAt}
+use Rattle.numbers.specs.Buffer.{over}
+use Rattle.frame.specs.Message.{maskOf, present, byPanel}
+use Rattle.frame.specs.Frame.{fields, frame}
+use Rattle.frame.specs.Refusal.{firstOf}
+use Rattle.frame.specs.Reading.{eachEarlier, checks, messageIn}
+use Rattle.frame.specs.Readable.{eachBelow, readable}
+use Rattle.rules.specs.Panel.{none64, lapsed, met, eachPanel, ready}
+use Rattle.rules.specs.Handing.{raise, hand, logRecord, logRecords}
+use Rattle.rules.specs.Settling.{sooner, chosen, choice, without, goOn, settleIn, settle}
+use Rattle.rules.specs.Calls.{handAndSettle, sendDeadline, newMessage, sending, receiving, alive, clocking}
+use Rattle.rules.specs.Refusals.{eachReadable, broken, isWaiting, sendChecks, messageChecks, receiveChecks, clockChecks}
+use Rattle.rules.specs.Results.{refused, done, unless, defined}
+use Rattle.rules.specs.BenchCases.{finished, _and_, EachHolds, frame1, case1, frame2, case2, case3, case4, case5, case6, case7, case8, queue, case9, case10, case11, benchCases}
+
+-- whoever unfolds this unfolds all definitions
+opened : Unit {0}
+unfolding flatten onesIn bigEndian bigEndians number numberAt numbersAt over maskOf present byPanel fields frame firstOf eachEarlier checks messageIn eachBelow readable none64 lapsed met eachPanel ready raise hand logRecord logRecords sooner chosen choice without goOn settleIn settle handAndSettle sendDeadline newMessage sending receiving alive clocking eachReadable broken isWaiting sendChecks messageChecks receiveChecks clockChecks refused done unless defined frame1 frame2 queue
+opened = tt
+
+-- Of every step of every case, the result that the case names is the one that document 01 defines.
+pub bench-cases : EachHolds benchCases
+unfolding opened case1 case2 case3 case4 case5 case6 case7 case8 case9 case10 case11
+bench-cases = refl and refl and refl and refl and refl and refl and refl and refl and refl and refl and refl and finished

@@ -1,0 +1,222 @@
+-- Document 01, "Bench cases" 1 to 11 (12 is of the program). Each case is a list of steps: a record and a call in; the answer, the record and
+-- all bytes out. Bytes are written out by hand.
+use Prim.Native.Nat.{ℕ, zero, suc, _+_, _*_}
+use mathlib.Core.Path.{_≡_}
+use mathlib.Core.List.{List, [], _∷_, _++_, map, flatten}
+use lib.ListN.{length, take, drop, set, replicate}
+use Rattle.frame.specs.Message.{Message, messageOf}
+use Rattle.rules.specs.Panel.{Panel, none64}
+use Rattle.rules.specs.Results.{Call, send, receive, clock, Result, defined}
+
+pub record Step : Type 0 where
+  pub panel : Panel
+  pub call : Call
+  pub result : Result
+
+abbrev pub step : Panel → Call → Result → Step
+step panel call result = record { panel = panel; call = call; result = result }
+
+-- the results that document 01 defines are those of the case
+abbrev pub Holds : List Step → Type 0
+Holds steps = map (λ (s : Step). s .result) steps ≡ map (λ (s : Step). defined (s .panel) (s .call)) steps
+
+infixr 5 _and_
+pub data EachHolds : List (List Step) → Type 0 where
+  finished : EachHolds []
+  _and_ : {steps : List Step} {cases : List (List Step)} → Holds steps → EachHolds cases → EachHolds (steps ∷ cases)
+
+-- ---- how the cases are written
+
+-- 64 numbers: those of the panels named, 0 at the others
+abbrev pub of : List (ℕ × ℕ) → List ℕ
+of [] = none64
+of (n ∷ ns) = set (of ns) (n .0) (n .1)
+
+-- own number, time, high, marks, barrier, waiting
+abbrev pub panelOf : ℕ → ℕ → ℕ → List ℕ → List ℕ → List Message → Panel
+panelOf own time high marks barrier waiting =
+    record { own = own; time = time; high = high; marks = marks; barrier = barrier; waiting = waiting }
+
+-- the buffers as they are lent
+abbrev pub output : List ℕ
+output = replicate 1254 7
+
+abbrev pub buffer : List ℕ
+buffer = replicate 307 7
+
+-- a log record that begins with these bytes, zeros behind
+abbrev pub logged : List ℕ → List ℕ
+logged bytes = take 38 (bytes ++ replicate 38 0)
+
+-- a frame that begins with mark, version, source and the deadline's bytes; without entries eight 00 follow
+abbrev pub frameFrom : List ℕ → List ℕ → List ℕ
+frameFrom start rest = 0x44 ∷ 0x52 ∷ 0x59 ∷ 0x00 ∷ 0x01 ∷ (start ++ rest)
+
+abbrev pub zeros8 : List ℕ
+zeros8 = replicate 8 0x00
+
+-- the output with these log records
+abbrev pub outputWith : List (List ℕ) → List ℕ
+outputWith records = flatten records ++ drop (38 * length records) output
+
+-- a send gave this record, these log records and this frame
+abbrev pub sent : Panel → List (List ℕ) → List ℕ → Result
+sent panel records frame =
+    record {
+      number = 0;
+      panel = panel;
+      count = length records;
+      output = outputWith records;
+      frameLength = length frame;
+      buffer = frame ++ drop (length frame) buffer;
+    }
+
+-- a receive or a clock call gave this record and these log records
+abbrev pub taken : Panel → List (List ℕ) → Result
+taken panel records = record { number = 0; panel = panel; count = length records; output = outputWith records; frameLength = 0; buffer = [] }
+
+-- a call with that frame buffer was refused with that number
+abbrev pub refusedWith : ℕ → Panel → List ℕ → Result
+refusedWith number panel lent = record { number = number; panel = panel; count = 0; output = output; frameLength = 0; buffer = lent }
+
+-- ---- 1: panel 3, time 100, sends 4F 4B with lifetime 0: deadline 1300; 21 bytes
+
+unfoldable pub frame1 : List ℕ
+frame1 = frameFrom (0x03 ∷ 0x00 ∷ 0x00 ∷ 0x05 ∷ 0x14 ∷ zeros8) (0x02 ∷ 0x4f ∷ 0x4b ∷ [])
+
+abbrev pub logged1 : List ℕ
+logged1 = logged (3 ∷ 0x00 ∷ 0x00 ∷ 0x05 ∷ 0x14 ∷ 2 ∷ 0x4f ∷ 0x4b ∷ [])
+
+abbrev pub after1 : Panel
+after1 = panelOf 3 100 1300 (of ((3, 1300) ∷ [])) (of ((3, 1300) ∷ [])) []
+
+unfoldable pub case1 : List Step
+case1 = step (panelOf 3 100 0 none64 none64 []) (send (0x4f ∷ 0x4b ∷ []) 0 output buffer) (sent after1 (logged1 ∷ []) frame1) ∷ []
+
+-- ---- 2: it then sends an empty payload with lifetime 0: deadline 1301, mask 8, entry 1300, 23 bytes
+
+unfoldable pub frame2 : List ℕ
+frame2 =
+    frameFrom (0x03 ∷ 0x00 ∷ 0x00 ∷ 0x05 ∷ 0x15 ∷ replicate 7 0x00) (0x08 ∷ 0x00 ∷ 0x00 ∷ 0x05 ∷ 0x14 ∷ 0x00 ∷ [])
+
+abbrev pub logged2 : List ℕ
+logged2 = logged (3 ∷ 0x00 ∷ 0x00 ∷ 0x05 ∷ 0x15 ∷ 0 ∷ [])
+
+unfoldable pub case2 : List Step
+case2 =
+    step after1 (send [] 0 output buffer)
+    (sent (panelOf 3 100 1301 (of ((3, 1301) ∷ [])) (of ((3, 1301) ∷ [])) []) (logged2 ∷ []) frame2)
+    ∷ []
+
+-- ---- 3: a fresh panel 0 is given case 2's frame and then case 1's: both are taken, and the second hands both
+
+unfoldable pub case3 : List Step
+case3 =
+    let fresh0 = panelOf 0 0 0 none64 none64 [] in
+    let one = panelOf 0 0 0 none64 none64 (messageOf 3 1301 (of ((3, 1300) ∷ [])) [] ∷ []) in
+    step fresh0 (receive frame2 output) (taken one [])
+    ∷ step one (receive frame1 output) (taken (panelOf 0 0 1301 (of ((3, 1301) ∷ [])) (of ((3, 1301) ∷ [])) []) (logged1 ∷ logged2 ∷ []))
+    ∷ []
+
+-- ---- 4: panel 1 at 1000 sends with lifetime 100: 1100; panel 2 at 500 takes it and sends with lifetime 50: 1101, not 550
+
+unfoldable pub case4 : List Step
+case4 =
+    let frame = frameFrom (0x01 ∷ 0x00 ∷ 0x00 ∷ 0x04 ∷ 0x4c ∷ zeros8) (0x00 ∷ []) in
+    let line = logged (1 ∷ 0x00 ∷ 0x00 ∷ 0x04 ∷ 0x4c ∷ 0 ∷ []) in
+    let panel2 = panelOf 2 500 1100 (of ((1, 1100) ∷ [])) (of ((1, 1100) ∷ [])) [] in
+    step (panelOf 1 1000 0 none64 none64 []) (send [] 100 output buffer)
+    (sent (panelOf 1 1000 1100 (of ((1, 1100) ∷ [])) (of ((1, 1100) ∷ [])) []) (line ∷ []) frame)
+    ∷ step (panelOf 2 500 0 none64 none64 []) (receive frame output) (taken panel2 (line ∷ []))
+    ∷ step panel2 (send [] 50 output buffer)
+    (sent (panelOf 2 500 1101 (of ((1, 1100) ∷ (2, 1101) ∷ [])) (of ((2, 1101) ∷ [])) [])
+    (logged (2 ∷ 0x00 ∷ 0x00 ∷ 0x04 ∷ 0x4d ∷ 0 ∷ []) ∷ [])
+    (frameFrom (0x02 ∷ 0x00 ∷ 0x00 ∷ 0x04 ∷ 0x4d ∷ replicate 7 0x00) (0x02 ∷ 0x00 ∷ 0x00 ∷ 0x04 ∷ 0x4c ∷ 0x00 ∷ [])))
+    ∷ []
+
+-- ---- 5: deadline 700 at time 700 is taken; at time 701 it is 21
+
+unfoldable pub case5 : List Step
+case5 =
+    let frame = frameFrom (0x01 ∷ 0x00 ∷ 0x00 ∷ 0x02 ∷ 0xbc ∷ zeros8) (0x00 ∷ []) in
+    step (panelOf 0 700 0 none64 none64 []) (receive frame output)
+    (taken (panelOf 0 700 700 (of ((1, 700) ∷ [])) (of ((1, 700) ∷ [])) []) (logged (1 ∷ 0x00 ∷ 0x00 ∷ 0x02 ∷ 0xbc ∷ 0 ∷ []) ∷ []))
+    ∷ step (panelOf 0 701 0 none64 none64 []) (receive frame output) (refusedWith 21 (panelOf 0 701 0 none64 none64 []) [])
+    ∷ []
+
+-- ---- 6: time 4,294,967,294, high 0, lifetime 1: sent with 4,294,967,295; the next send is 24
+
+unfoldable pub case6 : List Step
+case6 =
+    let last = of ((3, 4294967295) ∷ []) in
+    let panel = panelOf 3 4294967294 4294967295 last last [] in
+    step (panelOf 3 4294967294 0 none64 none64 []) (send [] 1 output buffer)
+    (sent panel (logged (3 ∷ 0xff ∷ 0xff ∷ 0xff ∷ 0xff ∷ 0 ∷ []) ∷ []) (frameFrom (0x03 ∷ 0xff ∷ 0xff ∷ 0xff ∷ 0xff ∷ zeros8) (0x00 ∷ [])))
+    ∷ step panel (send [] 1 output buffer) (refusedWith 24 panel buffer)
+    ∷ []
+
+-- ---- 7: two waiting messages made ready by one arrival, equal deadlines, sources 5 and 9: 5 goes first
+
+unfoldable pub case7 : List Step
+case7 =
+    let waitsFor7 = of ((7, 800) ∷ []) in
+    let three = of ((5, 900) ∷ (7, 800) ∷ (9, 900) ∷ []) in
+    step (panelOf 0 0 0 none64 none64 (messageOf 9 900 waitsFor7 [] ∷ messageOf 5 900 waitsFor7 [] ∷ []))
+    (receive (frameFrom (0x07 ∷ 0x00 ∷ 0x00 ∷ 0x03 ∷ 0x20 ∷ zeros8) (0x00 ∷ [])) output)
+    (taken (panelOf 0 0 900 three three [])
+    (logged (7 ∷ 0x00 ∷ 0x00 ∷ 0x03 ∷ 0x20 ∷ 0 ∷ []) ∷ logged (5 ∷ 0x00 ∷ 0x00 ∷ 0x03 ∷ 0x84 ∷ 0 ∷ [])
+    ∷ logged (9 ∷ 0x00 ∷ 0x00 ∷ 0x03 ∷ 0x84 ∷ 0 ∷ []) ∷ []))
+    ∷ []
+
+-- ---- 8: a clock call passes a message and the entry that it waits for: it is dropped, not handed
+
+unfoldable pub case8 : List Step
+case8 =
+    step (panelOf 0 0 0 none64 none64 (messageOf 5 900 (of ((7, 800) ∷ [])) [] ∷ [])) (clock 901 output)
+    (taken (panelOf 0 901 0 none64 none64 []) [])
+    ∷ []
+
+-- ---- 9: with 32 waiting, a ready 33rd is taken; one not ready is 23
+
+-- so many messages of panel 5 that wait for one of panel 7
+unfoldable pub queue : ℕ → List Message
+queue zero = []
+queue (suc n) = messageOf 5 (900 + n) (of ((7, 800) ∷ [])) [] ∷ queue n
+
+unfoldable pub case9 : List Step
+case9 =
+    let full = panelOf 0 0 0 none64 none64 (queue 32) in
+    step full (receive (frameFrom (0x06 ∷ 0x00 ∷ 0x00 ∷ 0x03 ∷ 0xb6 ∷ zeros8) (0x00 ∷ [])) output)
+    (taken (panelOf 0 0 950 (of ((6, 950) ∷ [])) (of ((6, 950) ∷ [])) (queue 32)) (logged (6 ∷ 0x00 ∷ 0x00 ∷ 0x03 ∷ 0xb6 ∷ 0 ∷ []) ∷ []))
+    ∷ step full
+    (receive (frameFrom (0x06 ∷ 0x00 ∷ 0x00 ∷ 0x03 ∷ 0xb6 ∷ replicate 7 0x00) (0x80 ∷ 0x00 ∷ 0x00 ∷ 0x03 ∷ 0x20 ∷ 0x00 ∷ [])) output)
+    (refusedWith 23 full [])
+    ∷ []
+
+-- ---- 10: a payload of 32 goes; 33 is 9; empty bytes are 1
+
+unfoldable pub case10 : List Step
+case10 =
+    let panel = panelOf 3 0 0 none64 none64 [] in
+    step panel (send (replicate 32 0x09) 0 output buffer)
+    (sent (panelOf 3 0 1200 (of ((3, 1200) ∷ [])) (of ((3, 1200) ∷ [])) [])
+    (logged (3 ∷ 0x00 ∷ 0x00 ∷ 0x04 ∷ 0xb0 ∷ 32 ∷ replicate 32 0x09) ∷ [])
+    (frameFrom (0x03 ∷ 0x00 ∷ 0x00 ∷ 0x04 ∷ 0xb0 ∷ zeros8) (0x20 ∷ replicate 32 0x09)))
+    ∷ step panel (send (replicate 33 0x09) 0 output buffer) (refusedWith 9 panel buffer)
+    ∷ step panel (receive [] output) (refusedWith 1 panel [])
+    ∷ []
+
+-- ---- 11: the same clock reading twice is accepted; one less is 25
+
+unfoldable pub case11 : List Step
+case11 =
+    let panel = panelOf 0 100 0 none64 none64 [] in
+    step (panelOf 0 0 0 none64 none64 []) (clock 100 output) (taken panel [])
+    ∷ step panel (clock 100 output) (taken panel [])
+    ∷ step panel (clock 99 output) (refusedWith 25 panel [])
+    ∷ []
+
+-- ---- all of them
+
+abbrev pub benchCases : List (List Step)
+benchCases = case1 ∷ case2 ∷ case3 ∷ case4 ∷ case5 ∷ case6 ∷ case7 ∷ case8 ∷ case9 ∷ case10 ∷ case11 ∷ []

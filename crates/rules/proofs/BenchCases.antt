@@ -17,12 +17,24 @@ use Rattle.rules.specs.Refusals.{eachReadable, broken, isWaiting, sendCh
 use Rattle.rules.specs.Results.{refused, done, unless, defined}
 use Rattle.rules.specs.BenchCases.{finished, _and_, EachHolds, frame1, case1, frame2, case2, case3, case4, case5, case6, case7, case8, queue, case9, case10, case11, benchCases}
 
--- whoever unfolds this unfolds all definitions
-opened : Unit {0}
-unfolding flatten onesIn bigEndian bigEndians number numberAt numbersAt over maskOf present byPanel fields frame firstOf eachEarlier checks messageIn eachBelow readable none64 lapsed met eachPanel ready raise hand logRecord logRecords sooner chosen choice without goOn settleIn settle handAndSettle sendDeadline newMessage sending receiving alive clocking eachReadable broken isWaiting sendChecks messageChecks receiveChecks clockChecks refused done unless defined frame1 frame2 queue
-opened = tt
+-- whoever unfolds these unfolds all definitions: of frames, of a panel's rules, of the calls, and the cases
+unfoldable pub framesOpened : Unit {0}
+unfolding flatten onesIn bigEndian bigEndians number numberAt numbersAt over maskOf present byPanel fields frame firstOf eachEarlier checks messageIn eachBelow readable
+framesOpened = tt
+
+unfoldable pub rulesOpened : Unit {0}
+unfolding none64 lapsed met eachPanel ready raise hand logRecord logRecords sooner chosen choice without goOn settleIn settle
+rulesOpened = tt
+
+unfoldable pub callsOpened : Unit {0}
+unfolding framesOpened rulesOpened handAndSettle sendDeadline newMessage sending receiving alive clocking eachReadable broken isWaiting sendChecks messageChecks receiveChecks clockChecks refused done unless defined
+callsOpened = tt
+
+casesOpened : Unit {0}
+unfolding callsOpened frame1 frame2 queue case1 case2 case3 case4 case5 case6 case7 case8 case9 case10 case11
+casesOpened = tt
 
 -- Of every step of every case, the result that the case names is the one that document 01 defines.
 pub bench-cases : EachHolds benchCases
-unfolding opened case1 case2 case3 case4 case5 case6 case7 case8 case9 case10 case11
+unfolding casesOpened
 bench-cases = refl and refl and refl and refl and refl and refl and refl and refl and refl and refl and refl and finished

@@ -1,12 +1,12 @@
 -- What holds where a call is not refused. Assumes nothing.
-use Prim.Native.Nat.{ℕ, suc, _+_, _^_, _≤_, _<_}
+use Prim.Native.Nat.{ℕ, _+_, _≤_, _<_}
 use native.Mathlib.Omega.{arith}
-use mathlib.Core.Path.{_≡_, refl, ap}
+use mathlib.Core.Path.{_≡_, refl}
 use mathlib.Core.Logic.{_≢_, _⊎_, inl, inr, ⊎-elim}
-use mathlib.Core.Bool.{Bool, true, false, not, _&&_, _||_}
+use mathlib.Core.Bool.{Bool, true, false, not}
 use mathlib.Core.List.{List, [], _∷_, _++_, List·Memᴰ·head as first, List·Memᴰ·tail as later}
 use lib.ListN.{length, getD}
-use lib.Dec.{leb, ltb, eqb}
+use lib.Dec.{leb, ltb}
 use borrow.Author.Tests.{ltb-false, leb-false, eqb-false, le-ltb}
 use Rattle.numbers.specs.Numbers.{Bytes}
 use Rattle.frame.specs.Message.{Message}
@@ -18,7 +18,7 @@ use Rattle.frame.proofs.FirstOf.{eachRefuses, applies-none, firstOf-append}
 use Rattle.frame.proofs.EachNumber.{eachBelow-lt, lt-eachBelow}
 use Rattle.frame.proofs.Readable.{Readable, true-readable, readable-true}
 use Rattle.rules.specs.Sizes.{width, lastDeadline, outputLength, bufferLength}
-use Rattle.rules.specs.Panel.{nameOf, Panel, lapsed, ready}
+use Rattle.rules.specs.Panel.{nameOf, Panel, ready}
 use Rattle.rules.specs.Calls.{sendDeadline, newMessage}
 use Rattle.rules.specs.Refusals.{someAbove, eachReadable, broken, isWaiting, sendChecks, messageChecks, receiveChecks, clockChecks}
 use Rattle.rules.specs.Lists.{_isIn_}

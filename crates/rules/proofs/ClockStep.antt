@@ -1,27 +1,25 @@
 -- A clock call keeps what holds of a list. Assumes nothing.
-use Prim.Native.Nat.{ℕ, _+_, _≤_, _<_}
+use Prim.Native.Nat.{ℕ}
 use native.Mathlib.Omega.{arith}
 use mathlib.Core.Path.{_≡_, refl, ap, _∙_, subst⁻¹}
 use mathlib.Core.Logic.{_⊎_, inl, inr, ⊎-elim}
-use mathlib.Core.List.{List, [], _∷_, _++_, map, Memᴰ·append-left}
-use lib.ListN.{length}
-use Rattle.frame.specs.Message.{Message}
+use mathlib.Core.List.{List, [], _∷_, Memᴰ·append-left}
 use Rattle.frame.specs.Refusal.{firstOf}
-use Rattle.rules.specs.Panel.{Name, nameOf, Panel}
-use Rattle.rules.specs.Settling.{withWaiting, settle}
+use Rattle.rules.specs.Panel.{Name, Panel}
+use Rattle.rules.specs.Settling.{settle}
 use Rattle.rules.specs.Calls.{withTime, alive, dropLapsed, clocking}
 use Rattle.rules.specs.Refusals.{clockChecks}
 use Rattle.rules.specs.Results.{clock, done, defined}
 use Rattle.rules.specs.Lists.{_isIn_, Made, recordAt, framesSent, framesTaken, timeAfter, logAt, sends}
-use Rattle.rules.proofs.Ready.{limit, limit-time, dead, dead-withTime, limit-withTime}
+use Rattle.rules.proofs.Ready.{limit, limit-time, dead, dead-withTime}
 use Rattle.rules.proofs.WaitingList.{isIn-alive, alive-isIn, Distinct-alive, length-alive}
 use Rattle.rules.proofs.Handed.{clocking-readable}
-use Rattle.rules.proofs.Checks.{Valid, ClockPassed, clock-passed}
+use Rattle.rules.proofs.Checks.{ClockPassed, clock-passed}
 use Rattle.rules.proofs.Settling.{settle-settles}
-use Rattle.rules.proofs.Sound.{LogSound, WaitingSound, PanelSound}
-use Rattle.rules.proofs.Keeping.{logWith, Keeps, sound-withWaiting, settle-keeps}
+use Rattle.rules.proofs.Sound.{LogSound, WaitingSound}
+use Rattle.rules.proofs.Keeping.{Keeps, sound-withWaiting, settle-keeps}
 use Rattle.rules.proofs.Sites.{Site, siteAt, siteAfter, Placed, SiteSound}
-use Rattle.rules.proofs.Steps.{ListSound, list-with, made, unless-step, siteDone, siteAfter-done, placed-after}
+use Rattle.rules.proofs.Steps.{ListSound, made, quiet-step, unless-step, siteDone, siteAfter-done, placed-after}
 
 module _ (earlier : List Made) (L : ListSound earlier) (i : ℕ) (time : ℕ) (output : List ℕ) where
   abbrev site : Site
@@ -87,18 +85,13 @@ module _ (earlier : List Made) (L : ListSound earlier) (i : ℕ) (time : ℕ) (o
           mine = λ s k e. Memᴰ·append-left _ (G .mine s k e);
         }
 
-    sends-done : sends (made i (clock time output) (done (clocking p time) output [] []) ∷ earlier) ≡ sends earlier
-    unfolding sends framesSent
-    sends-done = refl
-
     site-done : siteAfter site (clock time output) (done (clocking p time) output [] []) ≡ siteDone site (clocking p time) (site .sent) (site .taken) time
     unfolding framesSent framesTaken timeAfter done
     site-done = siteAfter-done site (clock time output) (clocking p time) output [] [] (clocking-readable p time (P .valid .waiting))
 
     done-sound : ListSound (made i (clock time output) (done (clocking p time) output [] []) ∷ earlier)
-    done-sound =
-        list-with _ earlier (sends earlier) sends-done (L .sends-sound)
-        (subst⁻¹ (SiteSound (sends earlier) i) site-done clocking-sound) (λ j _. L .sites j)
+    unfolding framesSent
+    done-sound = quiet-step earlier L i (clock time output) _ refl (subst⁻¹ (SiteSound (sends earlier) i) site-done clocking-sound)
 
   pub clock-step : ListSound (made i (clock time output) (defined p (clock time output)) ∷ earlier)
   unfolding defined

@@ -1,7 +1,6 @@
 -- What a call hands: at most 33 messages, each of which has a frame. Assumes nothing.
 use Prim.Native.Nat.{ℕ, _+_, _≤_}
 use native.Mathlib.Omega.{arith}
-use mathlib.Core.Path.{_≡_}
 use mathlib.Core.Logic.{⊎-elim}
 use mathlib.Core.List.{List, [], _∷_, _++_, List·Memᴰ·head as first, List·Memᴰ·tail as later}
 use lib.ListN.{length, length-append}

@@ -1,10 +1,10 @@
 -- Settling keeps what holds of a panel. Assumes nothing.
-use Prim.Native.Nat.{ℕ, zero, suc, _≤_, _<_}
-use mathlib.Core.Path.{_≡_, refl, ap, _∙_}
+use Prim.Native.Nat.{ℕ, _<_}
+use mathlib.Core.Path.{_≡_, ap, _∙_}
 use mathlib.Core.Logic.{_⊎_, inl, inr, ⊎-elim}
 use mathlib.Core.Bool.{true}
 use mathlib.Core.List.{List, [], _∷_, _++_, map, append-nil, List·Memᴰ·head as first, Memᴰ·append-left, Memᴰ·append-right}
-use lib.ListN.{length, getD}
+use lib.ListN.{length}
 use lib.Seq.{append-snoc}
 use Rattle.frame.specs.Message.{Message}
 use Rattle.rules.specs.Panel.{Name, nameOf, Panel, ready}

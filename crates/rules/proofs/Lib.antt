@@ -22,3 +22,4 @@ pub mod ClockStep
 pub mod Reached
 pub mod Results
 pub mod Theorems
+pub mod Shams

@@ -1,10 +1,10 @@
 -- Log records: their length, and that the names read off an output are those of the messages handed. Assumes nothing.
-use Prim.Native.Nat.{ℕ, zero, suc, _+_, _*_, _-_, _^_, _≤_, _<_}
+use Prim.Native.Nat.{ℕ, _+_, _*_, _-_, _^_, _≤_, _<_}
 use native.Mathlib.Omega.{arith}
-use mathlib.Core.Path.{_≡_, refl, sym, ap, ap₂, _∙_}
+use mathlib.Core.Path.{_≡_, refl, ap, _∙_}
 use mathlib.Core.List.{List, [], _∷_, _++_, map, append-assoc, List·Memᴰ·head as first, List·Memᴰ·tail as later}
 use lib.ListN.{length, drop, replicate, length-append, length-replicate}
-use lib.Seq.{drop-at, drop-append-seam}
+use lib.Seq.{drop-at}
 use Rattle.numbers.specs.Numbers.{bigEndian, numberAt}
 use Rattle.numbers.specs.Buffer.{over}
 use Rattle.numbers.proofs.BigEndian.{length-bigEndian}
@@ -55,8 +55,10 @@ unfolding namesIn logRecords
 namesIn-logRecords [] rest r = refl
 namesIn-logRecords (m ∷ ms) rest r =
     let R = r m (first refl) in
-    rw (append-assoc (logRecord m) (logRecords ms) rest, source-logRecord m (logRecords ms ++ rest) (R .source), deadline-logRecord m (logRecords ms ++ rest) (R .fits), drop-at (logRecord m) (logRecords ms ++ rest) logRecordLength (length-logRecord m (R .payload)))
-    (ap {B = List Name} (λ ns. nameOf m ∷ ns) (namesIn-logRecords ms rest (λ w i. r w (later i))))
+    let behind = logRecords ms ++ rest in
+    rw (append-assoc (logRecord m) (logRecords ms) rest, source-logRecord m behind (R .source), deadline-logRecord m behind (R .fits))
+    (rw (drop-at (logRecord m) behind logRecordLength (length-logRecord m (R .payload)))
+    (ap {B = List Name} (λ ns. nameOf m ∷ ns) (namesIn-logRecords ms rest (λ w i. r w (later i)))))
 
 pub namesIn-over : (ms : List Message) (output : List ℕ) → EachReadable ms → namesIn (length ms) (over output 0 (logRecords ms)) ≡ map nameOf ms
 unfolding over

@@ -2,22 +2,21 @@
 use Prim.Native.Nat.{ℕ, _≤_, _<_}
 use native.Mathlib.Decide.{decLt}
 use native.Mathlib.Omega.{arith}
-use mathlib.Core.Path.{_≡_, refl, sym, ap, _∙_, subst, subst⁻¹}
+use mathlib.Core.Path.{refl, ap, subst, subst⁻¹}
 use mathlib.Core.Logic.{_⊎_, inl, inr, ⊎-elim, by-cases}
 use mathlib.Core.List.{List, [], _∷_}
 use lib.ListN.{getD}
 use Rattle.frame.specs.Message.{Message}
 use Rattle.frame.proofs.Readable.{Readable}
 use Rattle.rules.specs.Sizes.{width}
-use Rattle.rules.specs.Panel.{Name, nameOf, Panel, none64, fresh}
-use Rattle.rules.specs.Results.{Call, send, receive, clock, Result, defined, Promised}
-use Rattle.rules.specs.Lists.{_isIn_, Made, recordAt, sentAt, takenAt, logAt, timeAt, LapsedAt, Sent, sends, Before, direct, Given, Lawful, AllPromised}
-use Rattle.rules.proofs.Ready.{limit, limit-time, dead, dead-limit, ready-false}
+use Rattle.rules.specs.Panel.{Name, nameOf, fresh}
+use Rattle.rules.specs.Results.{Call, send, receive, clock, defined}
+use Rattle.rules.specs.Lists.{_isIn_, Made, recordAt, sentAt, takenAt, logAt, timeAt, LapsedAt, sends, Before, direct, Given, Lawful, AllPromised}
+use Rattle.rules.proofs.Ready.{limit, limit-time, dead-limit, ready-false}
 use Rattle.rules.proofs.Raise.{getD-none64, length-none64}
 use Rattle.rules.proofs.Checks.{Valid}
-use Rattle.rules.proofs.Cause.{carried, named, nothing-sent}
+use Rattle.rules.proofs.Cause.{named, nothing-sent}
 use Rattle.rules.proofs.Sound.{WasSent}
-use Rattle.rules.proofs.Sites.{Site, siteAt, SiteSound}
 use Rattle.rules.proofs.Steps.{ListSound, made}
 use Rattle.rules.proofs.SendStep.{send-step}
 use Rattle.rules.proofs.ReceiveStep.{receive-step}

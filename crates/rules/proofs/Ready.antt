@@ -5,18 +5,18 @@ use native.Mathlib.Nat.{eq-or-lt-of-le, le-of-suc-le-suc, not-suc-le-zero}
 use native.Mathlib.Omega.{arith}
 use mathlib.Core.Path.{_≡_, refl, ap, _∙_}
 use mathlib.Core.Logic.{_⊎_, inl, inr, ⊎-elim}
-use mathlib.Core.Bool.{Bool, true, false, _&&_, _||_, true≢false}
+use mathlib.Core.Bool.{Bool, true, false, _||_, true≢false}
 use mathlib.Core.List.{List}
 use lib.ListN.{getD}
-use lib.Dec.{leb, ltb}
-use borrow.Author.Tests.{ltb-true, ltb-false, leb-true, leb-false, lt-ltb}
+use lib.Dec.{leb}
+use borrow.Author.Tests.{ltb-true, ltb-false, leb-true, leb-false}
 use Rattle.frame.specs.Message.{Message}
 use Rattle.frame.proofs.Conjunction.{and-both}
 use Rattle.rules.specs.Panel.{Panel, lapsed, met, eachPanel, ready}
 use Rattle.rules.specs.Handing.{hand}
 use Rattle.rules.specs.Settling.{withWaiting}
-use Rattle.rules.specs.Calls.{sendDeadline, emptied, withTime, dropLapsed}
-use Rattle.rules.proofs.Booleans.{and-either, or-either, or-neither}
+use Rattle.rules.specs.Calls.{sendDeadline, emptied, withTime}
+use Rattle.rules.proofs.Booleans.{and-either, or-neither}
 
 -- ---- lapsed
 

@@ -1,11 +1,11 @@
 -- A receive keeps what holds of a list. Assumes nothing.
-use Prim.Native.Nat.{ℕ, _+_, _≤_, _<_}
+use Prim.Native.Nat.{ℕ, _+_, _<_}
 use native.Mathlib.Omega.{arith}
 use mathlib.Core.Path.{_≡_, refl, sym, ap, _∙_, subst, subst⁻¹}
 use mathlib.Core.Logic.{_⊎_, inl, inr, ⊎-elim, _≢_}
-use mathlib.Core.Bool.{true, false, cond, true≢false}
-use mathlib.Core.List.{List, [], _∷_, _++_, map, List·Memᴰ·head as first, List·Memᴰ·tail as later, Memᴰ·append-left, Memᴰ·append-right, Memᴰ·cast}
-use lib.ListN.{length, getD, length-append}
+use mathlib.Core.Bool.{true, true≢false}
+use mathlib.Core.List.{List, [], _∷_, _++_, List·Memᴰ·head as first, List·Memᴰ·tail as later, Memᴰ·append-left, Memᴰ·append-right}
+use lib.ListN.{length, length-append}
 use Rattle.frame.specs.Message.{Message}
 use Rattle.frame.specs.Refusal.{firstOf}
 use Rattle.frame.specs.Reading.{messageIn}
@@ -16,20 +16,18 @@ use Rattle.rules.specs.Handing.{hand}
 use Rattle.rules.specs.Settling.{Settled, withWaiting, settle}
 use Rattle.rules.specs.Calls.{handAndSettle, receiving}
 use Rattle.rules.specs.Refusals.{receiveChecks}
-use Rattle.rules.specs.Results.{Call, receive, Result, refused, done, unless, defined}
-use Rattle.rules.specs.Lists.{_isIn_, Made, recordAt, framesSent, framesTaken, nameIn, timeAfter, logAt, Sent, sends, Given}
+use Rattle.rules.specs.Results.{receive, refused, done, unless, defined}
+use Rattle.rules.specs.Lists.{_isIn_, Made, recordAt, framesSent, framesTaken, timeAfter, logAt, sends, Given}
 use Rattle.rules.proofs.Booleans.{cond-both}
-use Rattle.rules.proofs.Ready.{limit}
 use Rattle.rules.proofs.WaitingList.{isIn-end, Distinct-end}
 use Rattle.rules.proofs.Handed.{receiving-readable}
-use Rattle.rules.proofs.Checks.{Valid, ReceivePassed, receive-passed}
+use Rattle.rules.proofs.Checks.{ReceivePassed, receive-passed}
 use Rattle.rules.proofs.Settling.{settle-settles}
-use Rattle.rules.proofs.Cause.{name, SendsSound}
-use Rattle.rules.proofs.Sound.{WasSent, WaitingSound, PanelSound}
+use Rattle.rules.proofs.Sound.{WasSent, PanelSound}
 use Rattle.rules.proofs.Handing.{hand-ready}
 use Rattle.rules.proofs.Keeping.{logWith, Keeps, sound-withWaiting, keeps-hand, settle-keeps}
 use Rattle.rules.proofs.Sites.{Site, siteAt, siteAfter, Placed, SiteSound}
-use Rattle.rules.proofs.Steps.{ListSound, list-with, made, unless-step, siteDone, siteAfter-done, placed-after}
+use Rattle.rules.proofs.Steps.{ListSound, made, quiet-step, unless-step, siteDone, siteAfter-done, placed-after}
 
 module _ (earlier : List Made) (L : ListSound earlier) (i : ℕ) (bytes output : List ℕ) where
   abbrev site : Site
@@ -135,19 +133,14 @@ module _ (earlier : List Made) (L : ListSound earlier) (i : ℕ) (bytes output :
         cond-both (λ (s : Settled). SiteSound (sends earlier) i (siteDone site s (site .sent) (nameOf m ∷ site .taken) (site .time))) (ready p m)
         handed-sound (λ r. waits-sound (⊎-elim (λ l. l) (λ t. absurd (true≢false (sym t ∙ r))) (P .room)))
 
-    sends-done : sends (made i (receive bytes output) (done (receiving p m) output [] []) ∷ earlier) ≡ sends earlier
-    unfolding sends framesSent
-    sends-done = refl
-
     site-done : siteAfter site (receive bytes output) (done (receiving p m) output [] [])
         ≡ siteDone site (receiving p m) (site .sent) (nameOf m ∷ site .taken) (site .time)
     unfolding framesSent framesTaken timeAfter done
     site-done = siteAfter-done site (receive bytes output) (receiving p m) output [] [] (receiving-readable p m (P .valid .waiting) readable)
 
     done-sound : ListSound (made i (receive bytes output) (done (receiving p m) output [] []) ∷ earlier)
-    done-sound =
-        list-with _ earlier (sends earlier) sends-done (L .sends-sound)
-        (subst⁻¹ (SiteSound (sends earlier) i) site-done receiving-sound) (λ j _. L .sites j)
+    unfolding framesSent
+    done-sound = quiet-step earlier L i (receive bytes output) _ refl (subst⁻¹ (SiteSound (sends earlier) i) site-done receiving-sound)
 
   -- where the call is not refused, the frame was sent
   given-sent : (number : ℕ) → number ≡ 0

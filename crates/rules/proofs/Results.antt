@@ -1,37 +1,29 @@
 -- The defined result of a call on any record: a refusal changes nothing, at most 33 log records are written, and all that is written fits the
 -- buffers. Assumes nothing.
-use Prim.Native.Nat.{ℕ, zero, suc, _+_, _*_, _≤_, _<_}
+use Prim.Native.Nat.{ℕ, zero, suc, _≤_}
 use native.Mathlib.Omega.{arith}
-use mathlib.Core.Path.{_≡_, refl, sym, ap, _∙_}
-use mathlib.Core.Logic.{_⊎_, inl, inr, ⊎-elim, _≢_}
-use mathlib.Core.Bool.{Bool, true, false, not, _||_}
-use mathlib.Core.List.{List, [], _∷_, _++_}
+use mathlib.Core.Path.{_≡_, refl, sym, _∙_}
+use mathlib.Core.Logic.{_≢_}
+use mathlib.Core.Bool.{true, false, not, _||_}
 use lib.ListN.{length, drop}
 use lib.Dec.{eqb}
-use borrow.Author.Tests.{eqb-true, eqb-false}
+use borrow.Author.Tests.{eqb-false}
 use Rattle.numbers.specs.Numbers.{Bytes}
-use Rattle.numbers.specs.Buffer.{over}
-use Rattle.numbers.proofs.Over.{length-over, over-nil}
-use Rattle.frame.specs.Message.{Message}
-use Rattle.frame.specs.Frame.{frame}
 use Rattle.frame.specs.Refusal.{firstOf}
 use Rattle.frame.specs.Reading.{checks, messageIn}
 use Rattle.frame.proofs.FirstOf.{applies, pass, eachNumber, firstOf-each}
 use Rattle.frame.proofs.Readable.{readable-true}
 use Rattle.frame.proofs.Passed.{zero-passed, passed-readable}
 use Rattle.frame.proofs.Theorems.{frame-size}
-use Rattle.rules.specs.Sizes.{width, logRecordLength, outputLength}
-use Rattle.rules.specs.Panel.{Panel, ready}
-use Rattle.rules.specs.Handing.{hand, logRecords}
-use Rattle.rules.specs.Settling.{Settled, withWaiting, settle}
-use Rattle.rules.specs.Calls.{handAndSettle, newMessage, emptied, sending, receiving, withTime, dropLapsed, clocking}
+use Rattle.rules.specs.Sizes.{width, outputLength}
+use Rattle.rules.specs.Panel.{Panel}
+use Rattle.rules.specs.Handing.{logRecords}
+use Rattle.rules.specs.Calls.{newMessage}
 use Rattle.rules.specs.Refusals.{broken, sendChecks, messageChecks, receiveChecks, clockChecks, isRefusal}
 use Rattle.rules.specs.Results.{Call, send, receive, clock, outputOf, bufferOf, checksOf, effectOf, frameOf, Result, refused, done, unless, defined}
-use Rattle.rules.proofs.Booleans.{or-either, not-true}
-use Rattle.rules.proofs.WaitingList.{isIn-end, isIn-alive, length-alive}
+use Rattle.rules.proofs.Booleans.{not-true}
 use Rattle.rules.proofs.LogRecords.{EachReadable, length-logRecords}
-use Rattle.rules.proofs.Checks.{Valid, SendPassed, ReceivePassed, ClockPassed, send-passed, receive-passed, clock-passed, new-readable}
-use Rattle.rules.proofs.Settling.{settle-settles}
+use Rattle.rules.proofs.Checks.{Valid, send-passed, receive-passed, clock-passed, new-readable}
 use Rattle.rules.proofs.Handed.{effect-count, sending-readable, receiving-readable, clocking-readable}
 
 -- ---- either refused or done

@@ -1,10 +1,10 @@
 -- A send keeps what holds of a list. Assumes nothing.
-use Prim.Native.Nat.{ℕ, _+_, _≤_, _<_, max}
+use Prim.Native.Nat.{ℕ, _+_, _≤_}
 use native.Mathlib.Omega.{arith}
 use mathlib.Core.Path.{_≡_, refl, sym, ap, _∙_, subst, subst⁻¹}
-use mathlib.Core.Logic.{_⊎_, inl, inr, ⊎-elim, _≢_}
-use mathlib.Core.List.{List, [], _∷_, _++_, map, List·Memᴰ·head as first, List·Memᴰ·tail as later, Memᴰ·append-left, Memᴰ·append-right, Memᴰ·cast}
-use lib.ListN.{length, take, getD}
+use mathlib.Core.Logic.{_⊎_, inl, inr, _≢_}
+use mathlib.Core.List.{List, [], _∷_, _++_, List·Memᴰ·head as first, List·Memᴰ·tail as later, Memᴰ·append-left, Memᴰ·append-right, Memᴰ·cast}
+use lib.ListN.{length, take}
 use Rattle.numbers.specs.Numbers.{Bytes}
 use Rattle.numbers.specs.Buffer.{over}
 use Rattle.numbers.proofs.Over.{take-over}
@@ -17,13 +17,12 @@ use Rattle.frame.proofs.Places.{frame-message}
 use Rattle.rules.specs.Sizes.{width}
 use Rattle.rules.specs.Panel.{Name, nameOf, Panel}
 use Rattle.rules.specs.Handing.{hand}
-use Rattle.rules.specs.Settling.{Settled, settle}
 use Rattle.rules.specs.Calls.{handAndSettle, sendDeadline, newMessage, emptied, sending}
 use Rattle.rules.specs.Refusals.{sendChecks}
-use Rattle.rules.specs.Results.{Call, send, Result, done, defined}
-use Rattle.rules.specs.Lists.{_isIn_, Made, recordAt, framesSent, framesTaken, nameIn, timeAfter, logAt, Sent, sends}
+use Rattle.rules.specs.Results.{send, Result, done, defined}
+use Rattle.rules.specs.Lists.{_isIn_, Made, recordAt, framesSent, framesTaken, timeAfter, logAt, Sent, sends}
 use Rattle.rules.proofs.Ready.{limit, limit-sendDeadline}
-use Rattle.rules.proofs.Checks.{Valid, SendPassed, send-passed, new-readable}
+use Rattle.rules.proofs.Checks.{SendPassed, send-passed, new-readable}
 use Rattle.rules.proofs.Handed.{sending-readable}
 use Rattle.rules.proofs.Settling.{settle-settles}
 use Rattle.rules.proofs.Cause.{carried, name, SendsSound}

@@ -8,13 +8,13 @@ use lib.ListN.{getD}
 use Rattle.frame.specs.Message.{Message}
 use Rattle.frame.proofs.Readable.{Readable}
 use Rattle.rules.specs.Sizes.{width}
-use Rattle.rules.specs.Panel.{Name, nameOf, Panel}
+use Rattle.rules.specs.Panel.{Name, Panel}
 use Rattle.rules.specs.Handing.{hand}
 use Rattle.rules.specs.Calls.{emptied}
 use Rattle.rules.specs.Lists.{_isIn_, Sent, Before, direct}
 use Rattle.rules.proofs.Ready.{limit, dead, dead-limit, dead-hand, limit-hand, limit-emptied, dead-emptied}
 use Rattle.rules.proofs.Cause.{carried, name, named, Known, Covered, SendsSound, LastStep, last, before-more, before-old}
-use Rattle.rules.proofs.Sound.{LoggedOrDead, LogSound, SummarySound, WasSent, WaitingSound, PanelSound, known-sent, ahead-isIn, log-end}
+use Rattle.rules.proofs.Sound.{LoggedOrDead, LogSound, SummarySound, WaitingSound, PanelSound, known-sent, ahead-isIn, log-end}
 use Rattle.rules.proofs.Handing.{emptied-end, waits-end}
 
 -- m is sent with this log before it, at a panel that has all messages of its own in its log

@@ -1,12 +1,11 @@
 -- Settling of any record: one step of it, an induction on it, and what follows. Assumes nothing.
-use Prim.Native.Nat.{ℕ, zero, suc, _+_, _≤_, _<_}
+use Prim.Native.Nat.{ℕ, zero, suc, _+_, _<_}
 use native.Mathlib.Omega.{arith}
-use mathlib.Core.Path.{_≡_, refl, sym, ap, _∙_}
-use mathlib.Core.Logic.{_⊎_, inl, inr, ⊎-elim}
+use mathlib.Core.Path.{_≡_, refl, ap, _∙_}
 use mathlib.Core.Bool.{true, false}
 use mathlib.Core.Option.{Option, none, some}
 use mathlib.Core.List.{List, [], _∷_, List·Memᴰ·head as first, List·Memᴰ·tail as later, Memᴰ·cast}
-use lib.ListN.{length, getD}
+use lib.ListN.{length}
 use Rattle.frame.specs.Message.{Message}
 use Rattle.rules.specs.Panel.{Panel, ready}
 use Rattle.rules.specs.Handing.{hand}

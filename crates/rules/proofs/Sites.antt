@@ -1,22 +1,19 @@
 -- What the words of demand 3 say of one panel, together, and how a call changes them. Assumes nothing.
 use Prim.Native.Nat.{ℕ, suc, _≤_, _<_}
-use mathlib.Core.Path.{_≡_, refl, sym, ap, _∙_}
-use mathlib.Core.Logic.{_⊎_, inl, inr, ⊎-elim, _≢_}
-use mathlib.Core.Bool.{Bool, true, false, cond}
-use mathlib.Core.List.{List, [], _∷_, _++_, map, append-nil, Memᴰ·append-left, Memᴰ·cast}
+use mathlib.Core.Path.{_≡_, refl, ap, _∙_}
+use mathlib.Core.Logic.{_⊎_, _≢_}
+use mathlib.Core.Bool.{Bool, cond}
+use mathlib.Core.List.{List, [], _∷_, _++_, map, append-nil}
 use lib.ListN.{length}
-use lib.Dec.{eqb, eqb·suc-zero}
+use lib.Dec.{eqb·suc-zero}
 use borrow.Author.Tests.{eq-eqb, ne-eqb}
 use Rattle.frame.specs.Message.{Message}
 use Rattle.rules.specs.Panel.{Name, nameOf, Panel}
-use Rattle.rules.specs.Settling.{Settled, settle}
-use Rattle.rules.specs.Results.{Call, send, receive, clock, Result, refused, done}
+use Rattle.rules.specs.Results.{Call, send, receive, clock, Result, refused}
 use Rattle.rules.specs.Lists.{_isIn_, Made, on, recordAt, framesSent, framesTaken, nameIn, sentAt, takenAt, namesIn, logAt, timeAfter, timeAt, Sent}
-use Rattle.rules.proofs.LogRecords.{EachReadable, namesIn-over}
-use Rattle.rules.proofs.Settling.{NoneReady, settle-settles}
+use Rattle.rules.proofs.Settling.{NoneReady}
 use Rattle.rules.proofs.Cause.{name}
 use Rattle.rules.proofs.Sound.{PanelSound}
-use Rattle.rules.proofs.Keeping.{logWith, Keeps}
 
 -- the record of a panel, its log, the messages sent and taken there, its time
 pub record Site : Type 0 where

@@ -1,21 +1,18 @@
 -- What holds of one panel between any two steps of a call: its log is in the order of cause, its record sums up the log, its waiting list is
 -- in order. Assumes nothing.
-use Prim.Native.Nat.{ℕ, _≤_, _<_, max}
-use native.Mathlib.Decide.{ℕ-discrete, decLt}
+use Prim.Native.Nat.{ℕ, _≤_, _<_}
 use native.Mathlib.Omega.{arith}
-use mathlib.Core.Path.{_≡_, refl, sym, ap, _∙_}
-use mathlib.Core.Logic.{_⊎_, inl, inr, ⊎-elim, _≢_, by-cases}
-use mathlib.Core.List.{List, [], _∷_, _++_, List·Memᴰ·head as first, List·Memᴰ·tail as later, List·Memᴰ·not-nil, Memᴰ·append-left, Memᴰ·append-right, Memᴰ·cast}
+use mathlib.Core.Path.{_≡_, sym, ap}
+use mathlib.Core.Logic.{_⊎_, inl, inr, ⊎-elim}
+use mathlib.Core.List.{List, [], _∷_, _++_, List·Memᴰ·head as first, List·Memᴰ·tail as later, List·Memᴰ·not-nil, Memᴰ·append-left, Memᴰ·cast}
 use lib.ListN.{length, getD}
 use Rattle.frame.specs.Message.{Message}
-use Rattle.rules.specs.Panel.{Name, nameOf, Panel, none64}
-use Rattle.rules.specs.Handing.{raise}
+use Rattle.rules.specs.Panel.{Name, nameOf, Panel}
 use Rattle.rules.specs.Lists.{_isIn_, Sent, Before}
 use Rattle.rules.specs.Demand3.{Ahead}
-use Rattle.rules.proofs.Raise.{length-raise, raise-same, raise-other, raise-le, getD-none64, length-none64}
 use Rattle.rules.proofs.WaitingList.{isIn-end, Distinct}
 use Rattle.rules.proofs.Ready.{limit, dead}
-use Rattle.rules.proofs.Cause.{carried, named, name-path, Known, Covered, SendsSound, upto-upto, source-order, known-deadline, known-source}
+use Rattle.rules.proofs.Cause.{carried, named, Known, Covered, SendsSound}
 
 -- x is in the log, or dead: its deadline is below that number
 abbrev pub LoggedOrDead : List Name → ℕ → Name → Type 0

@@ -1,20 +1,16 @@
 -- Each call, refused or not, keeps what holds of a list. Assumes nothing.
-use Prim.Native.Nat.{ℕ, zero, suc, _+_, _≤_, _<_}
+use Prim.Native.Nat.{ℕ, zero, suc, _+_}
 use native.Mathlib.Decide.{ℕ-discrete}
-use native.Mathlib.Omega.{arith}
-use mathlib.Core.Path.{_≡_, refl, sym, ap, _∙_, subst⁻¹}
+use mathlib.Core.Path.{_≡_, refl, sym, subst⁻¹}
 use mathlib.Core.Logic.{_⊎_, inl, inr, ⊎-elim, _≢_, by-cases}
-use mathlib.Core.Bool.{Bool, true, false}
-use mathlib.Core.List.{List, [], _∷_, _++_, map, List·Memᴰ·head as first, List·Memᴰ·tail as later, Memᴰ·append-left, Memᴰ·append-right, Memᴰ·cast}
-use lib.ListN.{length}
+use mathlib.Core.List.{List, [], _∷_, _++_, map, Memᴰ·append-left, Memᴰ·cast}
 use lib.Dec.{eqb·suc-zero}
-use Rattle.frame.specs.Message.{Message}
-use Rattle.rules.specs.Panel.{Name, nameOf, Panel}
-use Rattle.rules.specs.Settling.{Settled, settle}
+use Rattle.rules.specs.Panel.{Name, Panel}
+use Rattle.rules.specs.Settling.{Settled}
 use Rattle.rules.specs.Results.{Call, send, receive, clock, Result, refused, done, unless}
-use Rattle.rules.specs.Lists.{_isIn_, Made, recordAt, framesSent, framesTaken, nameIn, timeAfter, Sent, sends}
+use Rattle.rules.specs.Lists.{Made, recordAt, framesSent, framesTaken, nameIn, timeAfter, Sent, sends}
 use Rattle.rules.proofs.LogRecords.{EachReadable, namesIn-over}
-use Rattle.rules.proofs.Cause.{name, SendsSound}
+use Rattle.rules.proofs.Cause.{SendsSound}
 use Rattle.rules.proofs.Keeping.{logWith, Keeps}
 use Rattle.rules.proofs.Sites.{Site, siteAt, siteAfter, siteAt-here, siteAt-other, siteAfter-refused, Placed, SiteSound}
 
@@ -42,12 +38,21 @@ abbrev pub made : ℕ → Call → Result → Made
 made i call result = record { at = i; call = call; result = result }
 
 module _ (earlier : List Made) (L : ListSound earlier) (i : ℕ) (call : Call) where
+  sends-quiet : (result : Result) → framesSent call result ≡ [] → sends (made i call result ∷ earlier) ≡ sends earlier
+  unfolding sends
+  sends-quiet result e = rw e refl
+
+  -- a call that sends nothing
+  pub quiet-step : (result : Result) → framesSent call result ≡ [] → SiteSound (sends earlier) i (siteAfter (siteAt i earlier) call result)
+      → ListSound (made i call result ∷ earlier)
+  quiet-step result e here = list-with _ earlier (sends earlier) (sends-quiet result e) (L .sends-sound) here (λ j _. L .sites j)
+
   -- a refused call
-  sends-refused : (c : Call) (output buffer : List ℕ) (n : ℕ) → sends (made i c (refused (recordAt i earlier) output buffer (suc n)) ∷ earlier) ≡ sends earlier
-  unfolding sends framesSent refused
-  sends-refused (send payload lifetime output′ buffer′) output buffer n = rw (eqb·suc-zero n) refl
-  sends-refused (receive bytes output′) output buffer n = refl
-  sends-refused (clock time output′) output buffer n = refl
+  framesSent-refused : (c : Call) (output buffer : List ℕ) (n : ℕ) → framesSent c (refused (recordAt i earlier) output buffer (suc n)) ≡ []
+  unfolding framesSent refused
+  framesSent-refused (send payload lifetime output′ buffer′) output buffer n = rw (eqb·suc-zero n) refl
+  framesSent-refused (receive bytes output′) output buffer n = refl
+  framesSent-refused (clock time output′) output buffer n = refl
 
   -- a call with that number of its refusal, where all is well if it is 0
   pub unless-step : (number : ℕ) (output buffer : List ℕ) (result : Result) → (number ≡ 0 → ListSound (made i call result ∷ earlier))
@@ -55,8 +60,8 @@ module _ (earlier : List Made) (L : ListSound earlier) (i : ℕ) (call : Call) w
   unfolding unless
   unless-step zero output buffer result h = h refl
   unless-step (suc n) output buffer result h =
-      list-with _ earlier (sends earlier) (sends-refused call output buffer n) (L .sends-sound)
-      (subst⁻¹ (SiteSound (sends earlier) i) (siteAfter-refused (siteAt i earlier) call output buffer n) (L .sites i)) (λ j _. L .sites j)
+      quiet-step _ (framesSent-refused call output buffer n)
+      (subst⁻¹ (SiteSound (sends earlier) i) (siteAfter-refused (siteAt i earlier) call output buffer n) (L .sites i))
 
 -- ---- a call that is not refused
 

@@ -15,7 +15,7 @@ use Rattle.rules.specs.Panel.{Panel, ready}
 use Rattle.rules.specs.Handing.{logRecords}
 use Rattle.rules.specs.Settling.{settle}
 use Rattle.rules.specs.Refusals.{isRefusal}
-use Rattle.rules.specs.Results.{Call, outputOf, bufferOf, checksOf, effectOf, frameOf, refused, done, defined}
+use Rattle.rules.specs.Results.{Call, outputOf, bufferOf, checksOf, effectOf, frameOf, Result, refused, done, defined, Promised}
 use Rattle.rules.specs.Lists.{_isIn_, Made, recordAt, Lawful, AllPromised, ran}
 use Rattle.rules.specs.Demand3.{Demand3}
 use Rattle.rules.proofs.Booleans.{or-either}
@@ -38,13 +38,14 @@ demand-3 list lawful promised =
       none-ahead = λ i. L .sites i .sound .log-sound .order;
     }
 
-ran-promised : (calls : List (ℕ × Call)) → AllPromised (ran calls)
-ran-promised [] = tt
-ran-promised (next ∷ earlier) = (refl, ran-promised earlier)
-
--- After every list of calls that each give what document 01 defines.
-pub every-list : (calls : List (ℕ × Call)) → Lawful (ran calls) → Demand3 (ran calls)
-every-list calls lawful = demand-3 (ran calls) lawful (ran-promised calls)
+-- So a module that keeps its promises keeps demand 3, after every list of calls.
+pub every-list : (gives : Panel → Call → Result) → ((p : Panel) (call : Call) → Promised p call (gives p call))
+    → (calls : List (ℕ × Call)) → Lawful (ran gives calls) → Demand3 (ran gives calls)
+every-list gives promise calls lawful = demand-3 (ran gives calls) lawful (promised calls)
+  where
+    promised : (calls : List (ℕ × Call)) → AllPromised (ran gives calls)
+    promised [] = tt
+    promised (next ∷ earlier) = (promise (recordAt (next .0) (ran gives earlier)) (next .1), promised earlier)
 
 -- A record reached by a list is never refused with 26.
 pub never-26 : (list : List Made) → Lawful list → AllPromised list → (panel : ℕ) → panel < 64

@@ -28,6 +28,7 @@ sendDeadline p lifetime = max (p .time + lifetimeOf lifetime) (p .high + 1)
 unfoldable pub newMessage : Panel → List ℕ → ℕ → Message
 newMessage p payload lifetime = messageOf (p .own) (sendDeadline p lifetime) (p .barrier) payload
 
+-- the record with its barrier emptied
 abbrev pub emptied : Panel → Panel
 emptied p = record { own = p .own; time = p .time; high = p .high; marks = p .marks; barrier = none64; waiting = p .waiting }
 
@@ -43,15 +44,16 @@ receiving p m = cond (ready p m) (handAndSettle p m) (settle (withWaiting p (p .
 
 -- ---- Clock
 
+-- the record with its time set
 abbrev pub withTime : Panel → ℕ → Panel
 withTime p time = record { own = p .own; time = time; high = p .high; marks = p .marks; barrier = p .barrier; waiting = p .waiting }
 
--- the messages that have not lapsed
+-- the messages of the list that have not lapsed
 unfoldable pub alive : Panel → List Message → List Message
 alive p [] = []
 alive p (m ∷ ms) = cond (lapsed p (m .deadline)) [] (m ∷ []) ++ alive p ms
 
--- lapsed waiting messages are dropped and never handed
+-- the record without the lapsed waiting messages, which are never handed
 abbrev pub dropLapsed : Panel → Panel
 dropLapsed p = withWaiting p (alive p (p .waiting))
 

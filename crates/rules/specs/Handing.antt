@@ -12,7 +12,7 @@ unfoldable pub raise : List ℕ → Message → List ℕ
 raise numbers m = set numbers (m .source) (max (getD numbers (m .source) 0) (m .deadline))
 
 -- Handing: the mark and the barrier entry of its source each become the larger of themselves and its deadline; high becomes the larger of
--- itself and the deadline.
+-- itself and the deadline. (One log record is written to the output: `done` writes those of all messages handed.)
 unfoldable pub hand : Panel → Message → Panel
 hand p m =
     record {
@@ -24,11 +24,14 @@ hand p m =
       waiting = p .waiting;
     }
 
--- A log record has 38 bytes: source 1, deadline 4, length 1, payload 32 with zeros after its end.
+-- A log record has 38 bytes:
 unfoldable pub logRecord : Message → List ℕ
 logRecord m =
-    bigEndian 1 (m .source) ++ bigEndian width (m .deadline) ++ bigEndian 1 (length (m .payload)) ++ m .payload
-    ++ replicate (32 - length (m .payload)) 0
+    bigEndian 1 (m .source)  -- source 1,
+    ++ bigEndian width (m .deadline)  -- deadline 4,
+    ++ bigEndian 1 (length (m .payload))  -- length 1,
+    ++ m .payload  -- payload 32
+    ++ replicate (32 - length (m .payload)) 0  -- with zeros after its end
 
 -- Log records stand one after another.
 unfoldable pub logRecords : List Message → List ℕ

@@ -10,8 +10,9 @@ use Rattle.numbers.specs.Numbers.{Bytes, numberAt}
 use Rattle.frame.specs.Reading.{messageIn}
 use Rattle.rules.specs.Sizes.{width, logRecordLength}
 use Rattle.rules.specs.Panel.{Name, nameOf, Panel, fresh}
-use Rattle.rules.specs.Results.{Call, send, receive, clock, Result, defined, Promised}
+use Rattle.rules.specs.Results.{Call, send, receive, clock, Result, Promised}
 
+-- x is an element of the list
 infix 4 _isIn_
 abbrev pub _isIn_ : {A : Type 0} → A → List A → Type 0
 x isIn xs = List·Memᴰ x xs
@@ -27,7 +28,7 @@ pub record Made : Type 0 where
 abbrev pub on : ℕ → Made → Bool
 on panel made = eqb panel (made .at)
 
--- of a call that was not refused
+-- the first where the call was not refused, else the second
 abbrev pub ifDone : {A : Type 0} → Result → A → A → A
 ifDone result done otherwise = cond (eqb (result .number) 0) done otherwise
 
@@ -103,6 +104,7 @@ pub record Sent : Type 0 where
   pub frame : List ℕ
   pub past : List Name
 
+-- all frames that were sent
 unfoldable pub sends : List Made → List Sent
 sends [] = []
 sends (made ∷ earlier) =
@@ -132,9 +134,9 @@ abbrev pub AllPromised : List Made → Type 0
 AllPromised [] = Unit {0}
 AllPromised (made ∷ earlier) = Promised (recordAt (made .at) earlier) (made .call) (made .result) × AllPromised earlier
 
--- the calls, each with the result that document 01 defines
-abbrev pub ran : List (ℕ × Call) → List Made
-ran [] = []
-ran (next ∷ earlier) =
-    let made = ran earlier in
-    record { at = next .0; call = next .1; result = defined (recordAt (next .0) made) (next .1) } ∷ made
+-- the list that comes of these calls, the latest first, each with the result that a module gives
+abbrev pub ran : (Panel → Call → Result) → List (ℕ × Call) → List Made
+ran gives [] = []
+ran gives (next ∷ earlier) =
+    let made = ran gives earlier in
+    record { at = next .0; call = next .1; result = gives (recordAt (next .0) made) (next .1) } ∷ made

@@ -1,14 +1,15 @@
 -- Document 01, "Turned down because of the input", "Turned down because of the state", and their order.
 use Prim.Native.Nat.{ℕ, _+_}
-use mathlib.Core.Bool.{Bool, true, false, not, _&&_, _||_}
+use mathlib.Core.Bool.{Bool, true, false, cond, not, _&&_, _||_}
 use mathlib.Core.List.{List, [], _∷_, _++_}
 use lib.ListN.{length, getD}
 use lib.Dec.{leb, ltb, eqb}
 use Rattle.frame.specs.Message.{Message}
+use Rattle.frame.specs.Refusal.{firstOf}
 use Rattle.frame.specs.Reading.{checks, messageIn}
 use Rattle.frame.specs.Readable.{eachBelow, readable}
 use Rattle.rules.specs.Sizes.{width, lastDeadline, outputLength, bufferLength}
-use Rattle.rules.specs.Panel.{Name, nameOf, Panel, lapsed, ready}
+use Rattle.rules.specs.Panel.{Panel, fresh, lapsed, ready}
 use Rattle.rules.specs.Calls.{sendDeadline}
 
 -- ---- 26
@@ -38,6 +39,16 @@ unfoldable pub isWaiting : Message → List Message → Bool
 isWaiting m [] = false
 isWaiting m (w ∷ ws) = eqb (m .source) (w .source) && eqb (m .deadline) (w .deadline) || isWaiting m ws
 
+-- ---- 11
+
+-- the number for a panel number above 63 asked of a fresh panel; 0 for any other
+unfoldable pub freshNumber : ℕ → ℕ
+freshNumber own = firstOf ((ltb 63 own, 11) ∷ [])
+
+-- the record that comes with it is a fresh panel 0
+unfoldable pub freshRecord : ℕ → Panel
+freshRecord own = cond (ltb 63 own) (fresh 0) (fresh own)
+
 -- ---- the checks of each call, in order, each with its number
 
 -- Send: 26, 10, 9, 24
@@ -54,7 +65,7 @@ unfoldable pub messageChecks : Panel → Message → List (Bool × ℕ)
 messageChecks p m =
     (eqb (m .source) (p .own), 20)  -- the frame's source is the own number
     ∷ (lapsed p (m .deadline), 21)  -- the message has lapsed
-    ∷ (leb (m .deadline) (getD (p .marks) (m .source) 0) || isWaiting m (p .waiting), 22)  -- its deadline is at most its source's mark, or it waits already
+    ∷ (leb (m .deadline) (getD (p .marks) (m .source) 0) || isWaiting m (p .waiting), 22)  -- at most its source's mark, or waiting already
     ∷ (leb 32 (length (p .waiting)) && not (ready p m), 23)  -- 32 are waiting and this one is not ready
     ∷ []
 
@@ -71,7 +82,6 @@ clockChecks p time output =
     ∷ (ltb time (p .time), 25)  -- the clock reading is below the panel's time
     ∷ []
 
--- ---- the numbers of the two lists that a call can answer (11 is that of asking for a fresh panel)
-
+-- the numbers of the two lists that the three calls can answer
 abbrev pub isRefusal : ℕ → Bool
 isRefusal n = leb 1 n && leb n 10 || leb 20 n && leb n 26

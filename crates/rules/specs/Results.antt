@@ -82,10 +82,10 @@ done settled output frame buffer =
       buffer = over buffer 0 frame;
     }
 
--- refused with that number, unless it is 0
+-- this result, unless the number is a refusal's
 unfoldable pub unless : ℕ → (ℕ → Result) → Result → Result
-unless zero refused done = done
-unless (suc n) refused done = refused (suc n)
+unless zero refuse result = result
+unless (suc n) refuse result = refuse (suc n)
 
 -- the result that document 01 defines
 unfoldable pub defined : Panel → Call → Result

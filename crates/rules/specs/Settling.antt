@@ -13,8 +13,7 @@ use Rattle.rules.specs.Handing.{hand}
 unfoldable pub sooner : Message → Message → Bool
 sooner a b = ltb (a .deadline) (b .deadline) || eqb (a .deadline) (b .deadline) && ltb (a .source) (b .source)
 
--- the place of the chosen one in m ∷ ms, where `later` is the place of the one chosen in ms: m, being earlier, where it is ready and that one
--- is not sooner
+-- the place chosen in m ∷ ms, where that in ms is given: that of m, the earliest, unless m is not ready or the one chosen in ms is sooner
 unfoldable pub chosen : Bool → Message → List Message → Option ℕ → Option ℕ
 chosen true m ms none = some 0
 chosen true m ms (some later) = cond (sooner (getD ms later m) m) (some (suc later)) (some 0)
@@ -30,6 +29,7 @@ choice p (m ∷ ms) = chosen (ready p m) m ms (choice p ms)
 unfoldable pub without : ℕ → List Message → List Message
 without place ms = take place ms ++ drop (suc place) ms
 
+-- the record with another waiting list
 abbrev pub withWaiting : Panel → List Message → Panel
 withWaiting p ms = record { own = p .own; time = p .time; high = p .high; marks = p .marks; barrier = p .barrier; waiting = ms }
 
@@ -53,12 +53,12 @@ goOn settle p (some place) =
     let rest = settle (handAt p place) in
     record { panel = rest .panel; handed = waitingAt p place ∷ rest .handed }
 
--- settling, at most so many times
+-- settling, where at most so many messages leave
 unfoldable pub settleIn : ℕ → Panel → Settled
 settleIn zero p = record { panel = p; handed = [] }
 settleIn (suc n) p = goOn (settleIn n) p (choice p (p .waiting))
 
--- Settling: while some waiting message is ready, the chosen one leaves the list and is handed. Each time one leaves, so that as many times as
--- messages wait are enough (`settle-done`).
+-- Settling: while some waiting message is ready, the chosen one leaves the list and is handed. No more can leave than wait; `settle-done` shows
+-- that none is ready at the end.
 unfoldable pub settle : Panel → Settled
 settle p = settleIn (length (p .waiting)) p

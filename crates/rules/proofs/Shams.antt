@@ -1,0 +1,126 @@
+-- What demand 3 says of the logs is no empty word: three of document 01's sham modules break it, each on a list of a few calls. Assumes nothing.
+use Prim.Native.Nat.{ℕ}
+use native.Mathlib.Omega.{arith}
+use mathlib.Core.Path.{_≡_, refl}
+use mathlib.Core.Logic.{inl}
+use mathlib.Core.List.{List, [], _∷_, _++_, List·Memᴰ·head as first, List·Memᴰ·tail as later}
+use Rattle.numbers.specs.Numbers.{Bytes}
+use Rattle.frame.specs.Reading.{messageIn}
+use Rattle.frame.specs.Readable.{eachBelow}
+use Rattle.frame.proofs.EachNumber.{eachBelow-lt}
+use Rattle.rules.specs.Sizes.{width}
+use Rattle.rules.specs.Panel.{Name, Panel, fresh}
+use Rattle.rules.specs.Settling.{withWaiting}
+use Rattle.rules.specs.Calls.{handAndSettle}
+use Rattle.rules.specs.Results.{Call, send, receive, clock, Result, done, defined}
+use Rattle.rules.specs.Lists.{_isIn_, Made, recordAt, framesSent, framesTaken, sentAt, takenAt, namesIn, logAt, timeAfter, timeAt, LapsedAt, sends, Before, direct, Given, Lawful, ran}
+use Rattle.rules.specs.Demand3.{Ahead}
+use Rattle.rules.specs.BenchCases.{output, buffer, frame1, frame2}
+use Rattle.rules.proofs.BenchCases.{callsOpened}
+use Rattle.rules.proofs.Cause.{LastStep, last}
+
+-- ---- the modules
+
+-- one that holds every message back
+pub holdsBack : Panel → Call → Result
+holdsBack p (send payload lifetime output buffer) = defined p (send payload lifetime output buffer)
+holdsBack p (receive bytes output) =
+    done (record { panel = withWaiting p (p .waiting ++ (messageIn width bytes ∷ [])); handed = [] }) output [] []
+holdsBack p (clock time output) = defined p (clock time output)
+
+-- one that hands each on arrival
+pub handsOnArrival : Panel → Call → Result
+handsOnArrival p (send payload lifetime output buffer) = defined p (send payload lifetime output buffer)
+handsOnArrival p (receive bytes output) = done (handAndSettle p (messageIn width bytes)) output [] []
+handsOnArrival p (clock time output) = defined p (clock time output)
+
+-- one that returns the record as it came
+pub recordAsItCame : Panel → Call → Result
+recordAsItCame p call =
+    let r = defined p call in
+    record { number = r .number; panel = p; count = r .count; output = r .output; frameLength = r .frameLength; buffer = r .buffer }
+
+-- ---- the lists: panel 3 sends the two messages of cases 1 and 2, and panel 0 hears them
+
+pub hold : Name
+hold = record { source = 3; deadline = 1300 }
+
+pub lifted : Name
+lifted = record { source = 3; deadline = 1301 }
+
+holdSent : List (ℕ × Call)
+holdSent = (3, send (0x4f ∷ 0x4b ∷ []) 1300 output buffer) ∷ []
+
+-- the first is heard
+pub once : (Panel → Call → Result) → List Made
+once gives = ran gives ((0, receive frame1 output) ∷ holdSent)
+
+-- and heard again
+pub twice : (Panel → Call → Result) → List Made
+twice gives = ran gives ((0, receive frame1 output) ∷ (0, receive frame1 output) ∷ holdSent)
+
+-- the second is heard, and then the first
+pub crossed : (Panel → Call → Result) → List Made
+crossed gives = ran gives ((0, receive frame1 output) ∷ (0, receive frame2 output) ∷ (3, send [] 0 output buffer) ∷ holdSent)
+
+-- whoever unfolds these unfolds all definitions of lists, and these lists
+listsOpened : Unit {0}
+unfolding callsOpened fresh recordAt framesSent framesTaken sentAt takenAt namesIn logAt timeAfter timeAt sends Given
+listsOpened = tt
+
+shamsOpened : Unit {0}
+unfolding listsOpened frame1 frame2 holdsBack handsOnArrival recordAsItCame hold lifted holdSent once twice crossed
+shamsOpened = tt
+
+-- ---- they are lists that demand 3 speaks of
+
+payload-bytes : Bytes (0x4f ∷ 0x4b ∷ [])
+unfolding eachBelow
+payload-bytes = eachBelow-lt 256 (0x4f ∷ 0x4b ∷ []) (omega arith) refl
+
+empty-bytes : Bytes []
+empty-bytes i = omega arith
+
+pub once-lawful : Lawful (once holdsBack)
+unfolding shamsOpened
+once-lawful = (omega arith, inl (_, first refl, refl), (omega arith, payload-bytes, tt))
+
+pub twice-lawful : Lawful (twice recordAsItCame)
+unfolding shamsOpened
+twice-lawful =
+    (omega arith, inl (_, first refl, refl), (omega arith, inl (_, first refl, refl), (omega arith, payload-bytes, tt)))
+
+pub crossed-lawful : Lawful (crossed handsOnArrival)
+unfolding shamsOpened
+crossed-lawful = (
+  omega arith,
+  inl (_, later (first refl), refl),
+  (omega arith, inl (_, first refl, refl), (omega arith, empty-bytes, (omega arith, payload-bytes, tt))),
+)
+
+-- ---- and their logs are not as demand 3 says
+
+-- Taken, not lapsed, and nothing is before it in cause, but it does not stand in the log.
+pub holding-back-breaks : (hold isIn takenAt 0 (once holdsBack)) × ¬ LapsedAt 0 (once holdsBack) hold
+    × ((x : Name) → ¬ Before (sends (once holdsBack)) x hold) × ¬ (hold isIn logAt 0 (once holdsBack))
+unfolding shamsOpened
+holding-back-breaks = (first refl, λ lt. omega (arith, lt), λ x b. alone x (last b), λ i. elim i [ ])
+  where
+    alone : (x : Name) → LastStep (sends (once holdsBack)) x hold → ⊥
+    alone x (y, u, s, first e, q, h) = elim (rw e at h) [ ]
+    alone x (y, u, s, later i, q, h) = elim i [ ]
+
+-- One stands ahead of another that is before it in cause.
+pub arrival-breaks : Ahead lifted hold (logAt 0 (crossed handsOnArrival)) × Before (sends (crossed handsOnArrival)) hold lifted
+unfolding shamsOpened
+arrival-breaks = (inl (refl, first refl), direct _ (first refl) refl (first refl))
+
+-- A message stands in the log twice.
+pub record-as-it-came-breaks : Ahead hold hold (logAt 0 (twice recordAsItCame))
+unfolding shamsOpened
+record-as-it-came-breaks = inl (refl, first refl)
+
+-- With the defined results the log is in the order of cause.
+pub crossed-in-order : logAt 0 (crossed defined) ≡ hold ∷ lifted ∷ []
+unfolding shamsOpened
+crossed-in-order = refl

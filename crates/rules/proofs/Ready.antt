@@ -87,10 +87,6 @@ module _ (p : Panel) where
   unfolding dead
   dead-withTime time le = le
 
-  pub limit-withTime : (time : ℕ) → p .time ≤ time → limit p ≤ limit (withTime p time)
-  unfolding limit
-  limit-withTime time le = le
-
 -- ---- ready
 
 pub eachPanel-true : (n : ℕ) (test : ℕ → Bool) → eachPanel n test ≡ true → (panel : ℕ) → panel < n → test panel ≡ true

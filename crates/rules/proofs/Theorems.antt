@@ -1,27 +1,34 @@
 -- What is shown of one call, of settling and of every list of calls. Assumes nothing.
 use Prim.Native.Nat.{ℕ, _≤_, _<_}
 use native.Mathlib.Omega.{arith}
-use mathlib.Core.Path.{_≡_, refl}
+use mathlib.Core.Path.{_≡_, refl, ap, _∙_}
 use mathlib.Core.Logic.{_⊎_, inl, inr, ⊎-elim, _≢_}
 use mathlib.Core.Bool.{true, false, _||_}
 use mathlib.Core.List.{List, [], _∷_}
-use lib.ListN.{length}
-use lib.Dec.{eqb}
-use borrow.Author.Tests.{eqb-true}
-use Rattle.numbers.proofs.Over.{length-over}
+use lib.ListN.{length, take}
+use lib.Dec.{eqb, ltb}
+use borrow.Author.Tests.{eqb-true, ltb-false}
+use Rattle.numbers.specs.Numbers.{Bytes}
+use Rattle.numbers.proofs.Over.{length-over, take-over}
 use Rattle.frame.specs.Message.{Message}
+use Rattle.frame.specs.Frame.{frame}
+use Rattle.frame.specs.Reading.{message, reading}
 use Rattle.frame.proofs.FirstOf.{firstOf-each}
-use Rattle.rules.specs.Panel.{Panel, ready}
+use Rattle.frame.proofs.Theorems.{reading-frame}
+use Rattle.frame.proofs.Readable.{readable-true}
+use Rattle.rules.specs.Sizes.{width}
+use Rattle.rules.specs.Panel.{Panel, ready, fresh}
 use Rattle.rules.specs.Handing.{logRecords}
 use Rattle.rules.specs.Settling.{settle}
-use Rattle.rules.specs.Refusals.{isRefusal}
-use Rattle.rules.specs.Results.{Call, outputOf, bufferOf, checksOf, effectOf, frameOf, Result, refused, done, defined, Promised}
+use Rattle.rules.specs.Calls.{newMessage}
+use Rattle.rules.specs.Refusals.{isRefusal, broken, freshRecord}
+use Rattle.rules.specs.Results.{Call, outputOf, bufferOf, checksOf, effectOf, frameOf, Result, refused, done, defined, Promised, send}
 use Rattle.rules.specs.Lists.{_isIn_, Made, recordAt, Lawful, AllPromised, ran}
 use Rattle.rules.specs.Demand3.{Demand3}
-use Rattle.rules.proofs.Booleans.{or-either}
+use Rattle.rules.proofs.Booleans.{or-either, cond-both}
 use Rattle.rules.proofs.Settling.{settle-settles}
 use Rattle.rules.proofs.Handed.{effect-count}
-use Rattle.rules.proofs.Checks.{false-broken}
+use Rattle.rules.proofs.Checks.{false-broken, send-passed, new-readable}
 use Rattle.rules.proofs.Results.{defined-both, defined-number, passed-valid, BytesOf, output-fits, buffer-fits, checks-listed, number-26}
 use Rattle.rules.proofs.Reached.{list-sound, logged-whole, whole-logged, reached-valid}
 
@@ -93,3 +100,25 @@ lengths-kept p call len bytes =
       length-over (outputOf call) 0 (logRecords (effectOf p call .handed)) (omega (arith, output-fits p call len bytes e)),
       length-over (bufferOf call) 0 (frameOf p call) (omega (arith, buffer-fits p call len bytes e)),
     ))
+
+-- The frame that a send wrote reads back as the message that it sent.
+pub sent-reads : (p : Panel) (payload : List ℕ) (lifetime : ℕ) (output buffer : List ℕ) → length (p .barrier) ≡ 64 → Bytes payload
+    → let result = defined p (send payload lifetime output buffer) in
+    result .number ≡ 0 → reading width (take (result .frameLength) (result .buffer)) ≡ message (newMessage p payload lifetime)
+unfolding refused done
+sent-reads p payload lifetime output buffer len bytes =
+    let m = newMessage p payload lifetime in
+    defined-both (λ r. r .number ≡ 0 → reading width (take (r .frameLength) (r .buffer)) ≡ message m) p (send payload lifetime output buffer)
+    (λ n e z. absurd (omega (arith, z)))
+    (λ e _.
+    let r = new-readable p payload lifetime output buffer (send-passed p payload lifetime output buffer e) len bytes in
+    ap (reading width) (take-over buffer (frame width m)) ∙ reading-frame width m (omega arith, omega arith) (readable-true width m r))
+
+-- A fresh panel is let through by 26, whatever number was asked for.
+pub fresh-valid : (own : ℕ) → broken (freshRecord own) ≡ false
+unfolding freshRecord recordAt
+fresh-valid own =
+    cond-both (λ p. broken p ≡ false) (ltb 63 own) (λ _. valid 0 (omega arith)) (λ e. valid own (omega (arith, ltb-false 63 own e)))
+  where
+    valid : (panel : ℕ) → panel < 64 → broken (fresh panel) ≡ false
+    valid panel lt = false-broken (fresh panel) (reached-valid [] (list-sound [] tt tt) panel lt)

@@ -216,7 +216,22 @@ case11 =
     ∷ step panel (clock 99 output) (refusedWith 25 panel [])
     ∷ []
 
+-- ---- beyond document 01's cases: what no list reaches and 26 lets through. Of the messages waiting one has lapsed, one is the panel's own,
+-- and that one waits twice; all are ready, and a call hands them
+
+unfoldable pub caseUnreached : List Step
+caseUnreached =
+    let own = messageOf 0 600 none64 [] in
+    let marks = of ((0, 600) ∷ (5, 400) ∷ (7, 800) ∷ []) in
+    step (panelOf 0 500 0 none64 none64 (own ∷ messageOf 5 400 none64 [] ∷ own ∷ []))
+    (receive (frameFrom (0x07 ∷ 0x00 ∷ 0x00 ∷ 0x03 ∷ 0x20 ∷ zeros8) (0x00 ∷ [])) output)
+    (taken (panelOf 0 500 800 marks marks [])
+    (logged (7 ∷ 0x00 ∷ 0x00 ∷ 0x03 ∷ 0x20 ∷ 0 ∷ []) ∷ logged (5 ∷ 0x00 ∷ 0x00 ∷ 0x01 ∷ 0x90 ∷ 0 ∷ [])
+    ∷ logged (0 ∷ 0x00 ∷ 0x00 ∷ 0x02 ∷ 0x58 ∷ 0 ∷ []) ∷ logged (0 ∷ 0x00 ∷ 0x00 ∷ 0x02 ∷ 0x58 ∷ 0 ∷ []) ∷ []))
+    ∷ []
+
 -- ---- all of them
 
 abbrev pub benchCases : List (List Step)
-benchCases = case1 ∷ case2 ∷ case3 ∷ case4 ∷ case5 ∷ case6 ∷ case7 ∷ case8 ∷ case9 ∷ case10 ∷ case11 ∷ []
+benchCases =
+    case1 ∷ case2 ∷ case3 ∷ case4 ∷ case5 ∷ case6 ∷ case7 ∷ case8 ∷ case9 ∷ case10 ∷ case11 ∷ caseUnreached ∷ []

@@ -75,9 +75,10 @@ sent panel records frame =
 abbrev pub taken : Panel → List (List ℕ) → Result
 taken panel records = record { number = 0; panel = panel; count = length records; output = outputWith records; frameLength = 0; buffer = [] }
 
--- a call with that frame buffer was refused with that number
-abbrev pub refusedWith : ℕ → Panel → List ℕ → Result
-refusedWith number panel lent = record { number = number; panel = panel; count = 0; output = output; frameLength = 0; buffer = lent }
+-- a call with these lent buffers was refused with that number
+abbrev pub refusedWith : ℕ → Panel → List ℕ → List ℕ → Result
+refusedWith number panel output buffer =
+    record { number = number; panel = panel; count = 0; output = output; frameLength = 0; buffer = buffer }
 
 -- ---- 1: panel 3, time 100, sends 4F 4B with lifetime 0: deadline 1300; 21 bytes
 
@@ -141,7 +142,7 @@ case5 =
     let frame = frameFrom (0x01 ∷ 0x00 ∷ 0x00 ∷ 0x02 ∷ 0xbc ∷ zeros8) (0x00 ∷ []) in
     step (panelOf 0 700 0 none64 none64 []) (receive frame output)
     (taken (panelOf 0 700 700 (of ((1, 700) ∷ [])) (of ((1, 700) ∷ [])) []) (logged (1 ∷ 0x00 ∷ 0x00 ∷ 0x02 ∷ 0xbc ∷ 0 ∷ []) ∷ []))
-    ∷ step (panelOf 0 701 0 none64 none64 []) (receive frame output) (refusedWith 21 (panelOf 0 701 0 none64 none64 []) [])
+    ∷ step (panelOf 0 701 0 none64 none64 []) (receive frame output) (refusedWith 21 (panelOf 0 701 0 none64 none64 []) output [])
     ∷ []
 
 -- ---- 6: time 4,294,967,294, high 0, lifetime 1: sent with 4,294,967,295; the next send is 24
@@ -152,7 +153,7 @@ case6 =
     let panel = panelOf 3 4294967294 4294967295 last last [] in
     step (panelOf 3 4294967294 0 none64 none64 []) (send [] 1 output buffer)
     (sent panel (logged (3 ∷ 0xff ∷ 0xff ∷ 0xff ∷ 0xff ∷ 0 ∷ []) ∷ []) (frameFrom (0x03 ∷ 0xff ∷ 0xff ∷ 0xff ∷ 0xff ∷ zeros8) (0x00 ∷ [])))
-    ∷ step panel (send [] 1 output buffer) (refusedWith 24 panel buffer)
+    ∷ step panel (send [] 1 output buffer) (refusedWith 24 panel output buffer)
     ∷ []
 
 -- ---- 7: two waiting messages made ready by one arrival, equal deadlines, sources 5 and 9: 5 goes first
@@ -190,7 +191,7 @@ case9 =
     (taken (panelOf 0 0 950 (of ((6, 950) ∷ [])) (of ((6, 950) ∷ [])) (queue 32)) (logged (6 ∷ 0x00 ∷ 0x00 ∷ 0x03 ∷ 0xb6 ∷ 0 ∷ []) ∷ []))
     ∷ step full
     (receive (frameFrom (0x06 ∷ 0x00 ∷ 0x00 ∷ 0x03 ∷ 0xb6 ∷ replicate 7 0x00) (0x80 ∷ 0x00 ∷ 0x00 ∷ 0x03 ∷ 0x20 ∷ 0x00 ∷ [])) output)
-    (refusedWith 23 full [])
+    (refusedWith 23 full output [])
     ∷ []
 
 -- ---- 10: a payload of 32 goes; 33 is 9; empty bytes are 1
@@ -202,8 +203,8 @@ case10 =
     (sent (panelOf 3 0 1200 (of ((3, 1200) ∷ [])) (of ((3, 1200) ∷ [])) [])
     (logged (3 ∷ 0x00 ∷ 0x00 ∷ 0x04 ∷ 0xb0 ∷ 32 ∷ replicate 32 0x09) ∷ [])
     (frameFrom (0x03 ∷ 0x00 ∷ 0x00 ∷ 0x04 ∷ 0xb0 ∷ zeros8) (0x20 ∷ replicate 32 0x09)))
-    ∷ step panel (send (replicate 33 0x09) 0 output buffer) (refusedWith 9 panel buffer)
-    ∷ step panel (receive [] output) (refusedWith 1 panel [])
+    ∷ step panel (send (replicate 33 0x09) 0 output buffer) (refusedWith 9 panel output buffer)
+    ∷ step panel (receive [] output) (refusedWith 1 panel output [])
     ∷ []
 
 -- ---- 11: the same clock reading twice is accepted; one less is 25
@@ -213,7 +214,34 @@ case11 =
     let panel = panelOf 0 100 0 none64 none64 [] in
     step (panelOf 0 0 0 none64 none64 []) (clock 100 output) (taken panel [])
     ∷ step panel (clock 100 output) (taken panel [])
-    ∷ step panel (clock 99 output) (refusedWith 25 panel [])
+    ∷ step panel (clock 99 output) (refusedWith 25 panel output [])
+    ∷ []
+
+-- ---- beyond document 01's cases: the order of refusals. Each call has two faults, of which the first of its list counts
+
+unfoldable pub caseOrder : List Step
+caseOrder =
+    let short : List ℕ = replicate 1253 7 in
+    let above63 = panelOf 64 0 0 none64 none64 [] in
+    let late = panelOf 3 4294967295 0 none64 none64 [] in
+    let marked = panelOf 3 801 900 (of ((7, 800) ∷ [])) none64 [] in
+    let own = frameFrom (0x03 ∷ 0x00 ∷ 0x00 ∷ 0x03 ∷ 0x20 ∷ zeros8) (0x00 ∷ []) in
+    let lapsed7 = frameFrom (0x07 ∷ 0x00 ∷ 0x00 ∷ 0x03 ∷ 0x20 ∷ zeros8) (0x00 ∷ []) in
+    let full = panelOf 3 0 0 none64 none64 (queue 32) in
+    let waits = frameFrom (0x05 ∷ 0x00 ∷ 0x00 ∷ 0x03 ∷ 0x84 ∷ replicate 7 0x00) (0x80 ∷ 0x00 ∷ 0x00 ∷ 0x03 ∷ 0x20 ∷ 0x00 ∷ []) in
+    step above63 (send [] 0 short buffer) (refusedWith 26 above63 short buffer)
+    ∷ step late (send (replicate 33 0x09) 0 output (replicate 306 7)) (refusedWith 10 late output (replicate 306 7))
+    ∷ step late (send (replicate 33 0x09) 0 output buffer) (refusedWith 9 late output buffer)
+    ∷ step late (send [] 0 output buffer) (refusedWith 24 late output buffer)
+    ∷ step above63 (receive [] short) (refusedWith 26 above63 short [])
+    ∷ step marked (receive [] short) (refusedWith 10 marked short [])
+    ∷ step marked (receive (own ++ (0x00 ∷ [])) output) (refusedWith 8 marked output [])  -- its source is the own number too
+    ∷ step marked (receive own output) (refusedWith 20 marked output [])  -- it has lapsed too
+    ∷ step marked (receive lapsed7 output) (refusedWith 21 marked output [])  -- it is at most the mark too
+    ∷ step full (receive waits output) (refusedWith 22 full output [])  -- it waits already, and 32 wait
+    ∷ step above63 (clock 0 short) (refusedWith 26 above63 short [])
+    ∷ step late (clock 0 short) (refusedWith 10 late short [])
+    ∷ step late (clock 0 output) (refusedWith 25 late output [])
     ∷ []
 
 -- ---- beyond document 01's cases: what no list reaches and 26 lets through. Of the messages waiting one has lapsed, one is the panel's own,
@@ -234,4 +262,4 @@ caseUnreached =
 
 abbrev pub benchCases : List (List Step)
 benchCases =
-    case1 ∷ case2 ∷ case3 ∷ case4 ∷ case5 ∷ case6 ∷ case7 ∷ case8 ∷ case9 ∷ case10 ∷ case11 ∷ caseUnreached ∷ []
+    case1 ∷ case2 ∷ case3 ∷ case4 ∷ case5 ∷ case6 ∷ case7 ∷ case8 ∷ case9 ∷ case10 ∷ case11 ∷ caseOrder ∷ caseUnreached ∷ []

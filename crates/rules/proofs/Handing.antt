@@ -2,7 +2,7 @@
 use Prim.Native.Nat.{ℕ, _≤_, _<_, max}
 use native.Mathlib.Decide.{ℕ-discrete, decLt}
 use native.Mathlib.Omega.{arith}
-use mathlib.Core.Path.{_≡_, refl, _∙_}
+use mathlib.Core.Path.{_≡_, refl, _∙_, subst}
 use mathlib.Core.Logic.{_⊎_, inl, inr, ⊎-elim, _≢_, by-cases}
 use mathlib.Core.Bool.{true}
 use mathlib.Core.List.{List, [], _∷_, _++_, List·Memᴰ·head as first, Memᴰ·append-left, Memᴰ·append-right, Memᴰ·cast}
@@ -11,11 +11,11 @@ use Rattle.frame.specs.Message.{Message}
 use Rattle.rules.specs.Panel.{Name, nameOf, Panel, none64, ready}
 use Rattle.rules.specs.Handing.{raise, hand}
 use Rattle.rules.specs.Lists.{_isIn_, Sent, Before}
-use Rattle.rules.proofs.Raise.{length-raise, raise-same, raise-other, raise-le, getD-none64, length-none64}
+use Rattle.rules.proofs.Raise.{length-raise, raise-same, raise-other, raise-le, getD-none64}
 use Rattle.rules.proofs.WaitingList.{isIn-end}
 use Rattle.rules.proofs.Ready.{limit, dead, dead-limit, dead-hand, limit-hand, ready-true}
-use Rattle.rules.proofs.Cause.{carried, named, name-path, Known, Upto, Covered, SendsSound, upto-upto, upto-rises, source-order, known-deadline, known-source, before-covered}
-use Rattle.rules.proofs.Sound.{LoggedOrDead, LogSound, SummarySound, WasSent, WaitingSound, PanelSound, known-sent, log-end}
+use Rattle.rules.proofs.Cause.{carried, named, name-path, Known, Upto, Covered, SendsSound, upto-before, upto-upto, upto-rises, source-order, known-deadline, known-source, before-covered}
+use Rattle.rules.proofs.Sound.{LoggedOrDead, LogSound, SummarySound, WasSent, WaitingSound, PanelSound, known-sent, Next, log-end}
 
 -- a list of numbers that names messages of the log is raised by a new one
 raise-logged : (log : List Name) (m : Message) (ns : List ℕ) → m .source < length ns → getD ns (m .source) 0 ≤ m .deadline
@@ -26,80 +26,79 @@ raise-logged log m ns lt le h k pos =
     (λ e. Memᴰ·append-right log (first (name-path e (rw e (omega (arith, raise-same ns m lt))))))
     (λ other. let v = raise-other ns m k other in Memᴰ·append-left _ (Memᴰ·cast (name-path refl v) (h k (omega arith))))
 
--- ---- marks, barrier and high, where a message that was sent, m, goes to the end of a log
+-- ---- marks, barrier and high, where a message goes to the end of the log
 
-module _ {ss : List Sent} (S : SendsSound ss) {log : List Name} {dead : ℕ} (L : LogSound ss log dead) (m : Message) (known : Known ss (nameOf m))
-    (alive : dead ≤ m .deadline) (new : ¬ (nameOf m isIn log)) {marks barrier : List ℕ} {high : ℕ} (K : SummarySound ss log marks barrier high) where
+-- of the barrier each entry stays in b, or is removed where the message that it names is before m
+abbrev pub Thinned : List Sent → Message → List ℕ → List ℕ → Type 0
+Thinned ss m barrier b =
+    (k : ℕ) → (getD b k 0 ≡ getD barrier k 0) ⊎ ((getD b k 0 ≡ 0) × Before ss (named k (getD barrier k 0)) (nameOf m))
+
+-- all is removed, where all of the log is before m
+pub thinned-all : {ss : List Sent} {log : List Name} {marks barrier : List ℕ} {high : ℕ} (m : Message) → SummarySound ss log marks barrier high
+    → ((x : Name) → x isIn log → Before ss x (nameOf m)) → Thinned ss m barrier none64
+thinned-all {barrier = barrier} m K all k =
+    by-cases (decLt 0 (getD barrier k 0)) (λ h. inr (getD-none64 k, all _ (K .barrier-logged k h))) (λ h. inl (omega (arith, getD-none64 k)))
+
+module _ {ss : List Sent} (S : SendsSound ss) {log : List Name} {dead : ℕ} (L : LogSound ss log dead) (m : Message) (N : Next ss log dead m)
+    {marks barrier : List ℕ} {high : ℕ} (K : SummarySound ss log marks barrier high) where
   abbrev log′ : List Name
   log′ = log ++ (nameOf m ∷ [])
 
   in-range : (ns : List ℕ) → length ns ≡ 64 → m .source < length ns
-  in-range ns e = omega (arith, known-source S known)
+  in-range ns e = omega (arith, known-source S (N .known))
 
   -- its deadline is above its source's mark
   above-mark : getD marks (m .source) 0 < m .deadline
   above-mark =
       by-cases (decLt (getD marks (m .source) 0) (m .deadline)) (λ h. h)
       (λ (h : ¬ (getD marks (m .source) 0 < m .deadline)).
-      let i = K .mark-logged (m .source) (omega (arith, known-deadline S known)) in
-      ⊎-elim (λ e. absurd (new (Memᴰ·cast e i)))
-      (λ b. absurd (⊎-elim new (λ d. omega (arith, d)) (L .whole _ (nameOf m) i b)))
-      (source-order S known (L .known _ i) refl (omega arith)))
+      let i = K .mark-logged (m .source) (omega (arith, known-deadline S (N .known))) in
+      ⊎-elim (λ e. absurd (N .new (Memᴰ·cast e i)))
+      (λ b. absurd (⊎-elim (N .new) (λ d. omega (arith, d, N .alive)) (L .whole _ (nameOf m) i b)))
+      (source-order S (N .known) (L .known _ i) refl (omega arith)))
 
-  -- whatever the new barrier is, if it names messages of the log and covers it
-  summary-end : (b : List ℕ) → length b ≡ 64 → ((k : ℕ) → 0 < getD b k 0 → named k (getD b k 0) isIn log′)
-      → ((x : Name) → x isIn log′ → Covered ss log′ b x) → SummarySound ss log′ (raise marks m) b (max high (m .deadline))
-  summary-end b len logged covers =
-      let lt = in-range marks (K .marks-64) in
+  thinned-logged : (b : List ℕ) → Thinned ss m barrier b → (k : ℕ) → 0 < getD b k 0 → named k (getD b k 0) isIn log
+  thinned-logged b thin k above =
+      ⊎-elim (λ (e : getD b k 0 ≡ getD barrier k 0). Memᴰ·cast (name-path refl e) (K .barrier-logged k (omega arith)))
+      (λ removed. absurd (omega (arith, removed .0))) (thin k)
+
+  -- a thinned barrier with m in it names messages of the log and covers it
+  pub summary-end : (b : List ℕ) → length b ≡ 64 → Thinned ss m barrier b → SummarySound ss log′ (raise marks m) (raise b m) (max high (m .deadline))
+  summary-end b len thin =
+      let above = in-range marks (K .marks-64) in
       record {
         marks-64 = length-raise marks m ∙ K .marks-64;
-        barrier-64 = len;
+        barrier-64 = length-raise b m ∙ len;
         below-mark = λ x i.
-            ⊎-elim (λ k. omega (arith, K .below-mark x k, raise-le marks m lt (x .source)))
-            (λ e. rw e (omega (arith, raise-same marks m lt))) (isIn-end log i);
-        mark-logged = raise-logged log m marks lt (omega (arith, above-mark)) (K .mark-logged);
+            ⊎-elim (λ k. omega (arith, K .below-mark x k, raise-le marks m above (x .source)))
+            (λ e. rw e (omega (arith, raise-same marks m above))) (isIn-end log i);
+        mark-logged = raise-logged log m marks above (omega (arith, above-mark)) (K .mark-logged);
         below-high = λ x i. ⊎-elim (λ k. omega (arith, K .below-high x k)) (λ e. rw e (omega arith)) (isIn-end log i);
-        barrier-logged = logged;
-        barrier-covers = covers;
+        barrier-logged = raise-logged log m b lt le (thinned-logged b thin);
+        barrier-covers = λ x i. ⊎-elim (λ k. old (K .barrier-covers x k)) (λ e. by-m (inl e)) (isIn-end log i);
       }
-
-  -- the barrier with m in it covers the log
-  pub barrier-end : SummarySound ss log′ (raise marks m) (raise barrier m) (max high (m .deadline))
-  barrier-end =
-      summary-end (raise barrier m) (length-raise barrier m ∙ K .barrier-64) (raise-logged log m barrier lt le (K .barrier-logged))
-      (λ x i. ⊎-elim (λ k. old (K .barrier-covers x k)) (λ e. (nameOf m, Memᴰ·append-right log (first refl), value, inl e)) (isIn-end log i))
     where
-      lt : m .source < length barrier
-      lt = in-range barrier (K .barrier-64)
+      lt : m .source < length b
+      lt = in-range b len
 
-      le : getD barrier (m .source) 0 ≤ m .deadline
+      le : getD b (m .source) 0 ≤ m .deadline
       le =
-          by-cases (decLt 0 (getD barrier (m .source) 0))
-          (λ h. omega (arith, K .below-mark _ (K .barrier-logged (m .source) h), above-mark)) (λ h. omega arith)
+          by-cases (decLt 0 (getD b (m .source) 0))
+          (λ h. omega (arith, K .below-mark _ (thinned-logged b thin (m .source) h), above-mark)) (λ h. omega arith)
 
-      value : getD (raise barrier m) (m .source) 0 ≡ m .deadline
-      value = omega (arith, raise-same barrier m lt, le)
+      by-m : {x : Name} → Upto ss x (nameOf m) → Covered ss log′ (raise b m) x
+      by-m u = (nameOf m, Memᴰ·append-right log (first refl), omega (arith, raise-same b m lt, le), u)
 
-      old : {x : Name} → Covered ss log barrier x → Covered ss log′ (raise barrier m) x
+      old : {x : Name} → Covered ss log barrier x → Covered ss log′ (raise b m) x
       old (c, i, e, u) =
           by-cases (ℕ-discrete (c .source) (m .source))
           (λ same.
           let below : c .deadline ≤ getD marks (m .source) 0 = rw same at (K .below-mark c i) in
-          (nameOf m, Memᴰ·append-right log (first refl), value, upto-upto u (source-order S (L .known c i) known same (omega (arith, above-mark)))))
-          (λ other. (c, Memᴰ·append-left _ i, raise-other barrier m (c .source) other ∙ e, u))
-
-  -- and so does an emptied one with m in it, where all of the log is before m
-  pub emptied-end : ((x : Name) → x isIn log → Before ss x (nameOf m)) → SummarySound ss log′ (raise marks m) (raise none64 m) (max high (m .deadline))
-  emptied-end all =
-      summary-end (raise none64 m) (length-raise none64 m ∙ length-none64)
-      (raise-logged log m none64 lt (omega (arith, getD-none64 (m .source))) (λ k h. absurd (omega (arith, getD-none64 k))))
-      (λ x i. (nameOf m, Memᴰ·append-right log (first refl), value, ⊎-elim (λ k. inr (all x k)) (λ e. inl e) (isIn-end log i)))
-    where
-      lt : m .source < length none64
-      lt = in-range none64 length-none64
-
-      value : getD (raise none64 m) (m .source) 0 ≡ m .deadline
-      value = omega (arith, raise-same none64 m lt, getD-none64 (m .source))
+          by-m (upto-upto u (source-order S (L .known c i) (N .known) same (omega (arith, above-mark)))))
+          (λ other.
+          ⊎-elim (λ stays. (c, Memᴰ·append-left _ i, raise-other b m (c .source) other ∙ stays ∙ e, u))
+          (λ removed. by-m (inr (upto-before u (subst (λ n. Before ss n (nameOf m)) (name-path refl e) (removed .1)))))
+          (thin (c .source)))
 
 -- ---- the waiting list, where one more message, another than those that wait, is in the log
 
@@ -135,9 +134,9 @@ module _ {ss : List Sent} (S : SendsSound ss) {log : List Name} {p : Panel} (G :
       → ((w : Message) → w isIn p .waiting → nameOf w ≢ nameOf m) → PanelSound ss (log ++ (nameOf m ∷ [])) (hand p m)
   unfolding hand
   hand-ready m s alive new r other =
-      let live : dead p ≤ m .deadline = omega (arith, dead-limit p) in
+      let next : Next ss log (dead p) m = record { known = known-sent s; alive = omega (arith, dead-limit p); new = new } in
       record {
-        log-sound = log-end S (G .log-sound) m (known-sent s) live new _ (dead-hand p m) (ready-whole m s r);
-        summary = barrier-end S (G .log-sound) m (known-sent s) live new (G .summary);
+        log-sound = log-end (G .log-sound) next _ (dead-hand p m) (ready-whole m s r);
+        summary = summary-end S (G .log-sound) m next (G .summary) (p .barrier) (G .summary .barrier-64) (λ k. inl refl);
         waits = rw (limit-hand p m) (waits-end m (G .waits) other);
       }

@@ -8,14 +8,15 @@ use lib.ListN.{getD}
 use Rattle.frame.specs.Message.{Message}
 use Rattle.frame.proofs.Readable.{Readable}
 use Rattle.rules.specs.Sizes.{width}
-use Rattle.rules.specs.Panel.{Name, Panel}
+use Rattle.rules.specs.Panel.{Name, Panel, none64}
 use Rattle.rules.specs.Handing.{hand}
 use Rattle.rules.specs.Calls.{emptied}
 use Rattle.rules.specs.Lists.{_isIn_, Sent, Before, direct}
+use Rattle.rules.proofs.Raise.{length-none64}
 use Rattle.rules.proofs.Ready.{limit, dead, dead-limit, dead-hand, limit-hand, limit-emptied, dead-emptied}
 use Rattle.rules.proofs.Cause.{carried, name, named, Known, Covered, SendsSound, LastStep, last, before-more, before-old}
-use Rattle.rules.proofs.Sound.{LoggedOrDead, LogSound, SummarySound, WaitingSound, PanelSound, known-sent, ahead-isIn, log-end}
-use Rattle.rules.proofs.Handing.{emptied-end, waits-end}
+use Rattle.rules.proofs.Sound.{LoggedOrDead, LogSound, SummarySound, WaitingSound, PanelSound, known-sent, ahead-isIn, Next, log-end}
+use Rattle.rules.proofs.Handing.{summary-end, thinned-all, waits-end}
 
 -- m is sent with this log before it, at a panel that has all messages of its own in its log
 pub record New (ss : List Sent) (m : Message) (log : List Name) : Type 0 where
@@ -122,15 +123,13 @@ module _ {ss : List Sent} (S : SendsSound ss) (new : Sent) (N : New ss (carried 
   own-sound p G alive =
       let H = panel-more G in
       let m = carried new in
-      let k : Known (new ∷ ss) (name new) = (new, first refl, refl) in
-      let live : dead p ≤ carried new .deadline = omega (arith, dead-limit p) in
+      let next : Next (new ∷ ss) (new .past) (dead p) m =
+      record { known = (new, first refl, refl); alive = omega (arith, dead-limit p); new = λ i. omega (arith, N .rising _ i) } in
       record {
-        log-sound = log-end sends-more (H .log-sound) m k live unlogged _ (rw (dead-emptied p) at (dead-hand (emptied p) m))
+        log-sound = log-end (H .log-sound) next _ (rw (dead-emptied p) at (dead-hand (emptied p) m))
             (λ y b. ⊎-elim (λ i. inl i) (λ d. inr (omega (arith, d, dead-hand (emptied p) m, dead-emptied p))) (new-whole (G .log-sound) y b));
-        summary = emptied-end sends-more (H .log-sound) m k live unlogged (H .summary) (λ x i. direct new (first refl) refl i);
+        summary = summary-end sends-more (H .log-sound) m next (H .summary) none64 length-none64
+            (thinned-all m (H .summary) (λ x i. direct new (first refl) refl i));
         waits = rw (limit-hand (emptied p) m, limit-emptied p)
             (waits-end m (H .waits) (λ w i e. unknown (let (s, j, q) = known-sent (G .waits .sent w i) in (s, j, q ∙ e))));
       }
-    where
-      unlogged : ¬ (name new isIn new .past)
-      unlogged i = omega (arith, N .rising _ i)

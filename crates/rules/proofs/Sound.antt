@@ -12,7 +12,7 @@ use Rattle.rules.specs.Lists.{_isIn_, Sent, Before}
 use Rattle.rules.specs.Demand3.{Ahead}
 use Rattle.rules.proofs.WaitingList.{isIn-end, Distinct}
 use Rattle.rules.proofs.Ready.{limit, dead}
-use Rattle.rules.proofs.Cause.{carried, named, Known, Covered, SendsSound}
+use Rattle.rules.proofs.Cause.{carried, named, Known, Covered}
 
 -- x is in the log, or dead: its deadline is below that number
 abbrev pub LoggedOrDead : List Name → ℕ → Name → Type 0
@@ -66,29 +66,34 @@ pub ahead-isIn : (x y : Name) (log : List Name) → Ahead x y log → x isIn log
 ahead-isIn x y (z ∷ log) (inl h) = first (h .0)
 ahead-isIn x y (z ∷ log) (inr h) = later (ahead-isIn x y log h)
 
--- ---- a message that was sent, m, goes to the end of a log
+-- ---- a message goes to the end of a log
 
-module _ {ss : List Sent} (S : SendsSound ss) {log : List Name} {dead : ℕ} (L : LogSound ss log dead) (m : Message) (known : Known ss (nameOf m))
-    (alive : dead ≤ m .deadline) (new : ¬ (nameOf m isIn log)) where
-  -- all that is before it is in the log, but for the dead, which may be more by now; nothing that it is before stands there already
-  pub log-end : (more : ℕ) → dead ≤ more → ((y : Name) → Before ss y (nameOf m) → LoggedOrDead log more y) → LogSound ss (log ++ (nameOf m ∷ [])) more
-  log-end more le h =
-      record {
-        known = λ x i. ⊎-elim (λ k. L .known x k) (λ e. rw e known) (isIn-end log i);
-        whole = λ x y i b. ⊎-elim (λ k. widen (later-dead (L .whole x y k b))) (λ e. widen (h y (rw e at b))) (isIn-end log i);
-        once = λ x a.
-            ⊎-elim (λ k. L .once x k) (λ (k : (x isIn log) × (x ≡ nameOf m)). new (Memᴰ·cast (sym (k .1)) (k .0))) (ahead-end x x (nameOf m) log a);
-        order = λ x y a b.
-            ⊎-elim (λ k. L .order x y k b) (λ (k : (x isIn log) × (y ≡ nameOf m)). behind x (k .0) (rw (k .1) at b)) (ahead-end x y (nameOf m) log a);
-      }
-    where
-      later-dead : {y : Name} → LoggedOrDead log dead y → LoggedOrDead log more y
-      later-dead (inl i) = inl i
-      later-dead (inr d) = inr (omega arith)
+-- m was sent, is not dead, and is not in the log yet
+pub record Next (ss : List Sent) (log : List Name) (dead : ℕ) (m : Message) : Type 0 where
+  pub known : Known ss (nameOf m)
+  pub alive : dead ≤ m .deadline
+  pub new : ¬ (nameOf m isIn log)
 
-      widen : {y : Name} → LoggedOrDead log more y → LoggedOrDead (log ++ (nameOf m ∷ [])) more y
-      widen (inl i) = inl (Memᴰ·append-left _ i)
-      widen (inr d) = inr d
+-- all that is before it is in the log, but for the dead, which may be more by now; nothing that it is before stands there already
+pub log-end : {ss : List Sent} {log : List Name} {dead : ℕ} {m : Message} → LogSound ss log dead → Next ss log dead m → (more : ℕ) → dead ≤ more
+    → ((y : Name) → Before ss y (nameOf m) → LoggedOrDead log more y) → LogSound ss (log ++ (nameOf m ∷ [])) more
+log-end {ss} {log} {dead} {m} L N more le h =
+    record {
+      known = λ x i. ⊎-elim (λ k. L .known x k) (λ e. rw e (N .known)) (isIn-end log i);
+      whole = λ x y i b. ⊎-elim (λ k. widen (later-dead (L .whole x y k b))) (λ e. widen (h y (rw e at b))) (isIn-end log i);
+      once = λ x a.
+          ⊎-elim (λ k. L .once x k) (λ (k : (x isIn log) × (x ≡ nameOf m)). N .new (Memᴰ·cast (sym (k .1)) (k .0))) (ahead-end x x (nameOf m) log a);
+      order = λ x y a b.
+          ⊎-elim (λ k. L .order x y k b) (λ (k : (x isIn log) × (y ≡ nameOf m)). behind x (k .0) (rw (k .1) at b)) (ahead-end x y (nameOf m) log a);
+    }
+  where
+    later-dead : {y : Name} → LoggedOrDead log dead y → LoggedOrDead log more y
+    later-dead (inl i) = inl i
+    later-dead (inr d) = inr (omega arith)
 
-      behind : (x : Name) → x isIn log → Before ss (nameOf m) x → ⊥
-      behind x i b = ⊎-elim new (λ d. omega (arith, d)) (L .whole x (nameOf m) i b)
+    widen : {y : Name} → LoggedOrDead log more y → LoggedOrDead (log ++ (nameOf m ∷ [])) more y
+    widen (inl i) = inl (Memᴰ·append-left _ i)
+    widen (inr d) = inr d
+
+    behind : (x : Name) → x isIn log → Before ss (nameOf m) x → ⊥
+    behind x i b = ⊎-elim (N .new) (λ d. omega (arith, d, N .alive)) (L .whole x (nameOf m) i b)

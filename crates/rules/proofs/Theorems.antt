@@ -5,7 +5,7 @@ use mathlib.Core.Path.{_≡_, refl, ap, _∙_}
 use mathlib.Core.Logic.{_⊎_, inl, inr, ⊎-elim, _≢_}
 use mathlib.Core.Bool.{true, false, _||_}
 use mathlib.Core.List.{List, [], _∷_}
-use lib.ListN.{length, take}
+use lib.ListN.{length, getD, take}
 use lib.Dec.{eqb, ltb}
 use borrow.Author.Tests.{eqb-true, ltb-false}
 use Rattle.numbers.specs.Numbers.{Bytes}
@@ -17,18 +17,19 @@ use Rattle.frame.proofs.FirstOf.{firstOf-each}
 use Rattle.frame.proofs.Theorems.{reading-frame}
 use Rattle.frame.proofs.Readable.{readable-true}
 use Rattle.rules.specs.Sizes.{width}
-use Rattle.rules.specs.Panel.{Panel, ready, fresh}
+use Rattle.rules.specs.Panel.{Name, Panel, ready, fresh}
 use Rattle.rules.specs.Handing.{logRecords}
 use Rattle.rules.specs.Settling.{settle}
 use Rattle.rules.specs.Calls.{newMessage}
 use Rattle.rules.specs.Refusals.{isRefusal, broken, freshRecord}
 use Rattle.rules.specs.Results.{Call, outputOf, bufferOf, checksOf, effectOf, frameOf, Result, refused, done, defined, Promised, send}
-use Rattle.rules.specs.Lists.{_isIn_, Made, recordAt, Lawful, AllPromised, ran}
+use Rattle.rules.specs.Lists.{_isIn_, Made, recordAt, logAt, Lawful, AllPromised, ran}
 use Rattle.rules.specs.Demand3.{Demand3}
 use Rattle.rules.proofs.Booleans.{or-either, cond-both}
 use Rattle.rules.proofs.Settling.{settle-settles}
 use Rattle.rules.proofs.Handed.{effect-count}
 use Rattle.rules.proofs.Checks.{false-broken, send-passed, new-readable}
+use Rattle.rules.proofs.Cause.{named}
 use Rattle.rules.proofs.Results.{defined-both, defined-number, passed-valid, BytesOf, output-fits, buffer-fits, checks-listed, number-26}
 use Rattle.rules.proofs.Reached.{list-sound, logged-whole, whole-logged, reached-valid}
 
@@ -53,6 +54,14 @@ every-list gives promise calls lawful = demand-3 (ran gives calls) lawful (promi
     promised : (calls : List (ℕ × Call)) → AllPromised (ran gives calls)
     promised [] = tt
     promised (next ∷ earlier) = (promise (recordAt (next .0) (ran gives earlier)) (next .1), promised earlier)
+
+-- A mark is the largest deadline in this panel's log from that source; 0 means none.
+pub mark-largest : (list : List Made) → Lawful list → AllPromised list → (panel source : ℕ)
+    → let mark = getD (recordAt panel list .marks) source 0 in
+    ((x : Name) → x isIn logAt panel list → x .source ≡ source → x .deadline ≤ mark) × (0 < mark → named source mark isIn logAt panel list)
+mark-largest list lawful promised panel source =
+    let K = list-sound list lawful promised .sites panel .sound .summary in
+    (λ x logged same. rw same at (K .below-mark x logged), K .mark-logged source)
 
 -- A record reached by a list is never refused with 26.
 pub never-26 : (list : List Made) → Lawful list → AllPromised list → (panel : ℕ) → panel < 64

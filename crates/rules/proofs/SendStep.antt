@@ -49,13 +49,15 @@ module _ (earlier : List Made) (L : ListSound earlier) (i : ℕ) (payload : List
   new : Sent
   new = record { frame = take (length (frame width m)) (over buffer 0 (frame width m)); past = logAt i earlier }
 
-  carried-new : Readable width m → carried new ≡ m
+  -- it reads back as the message
+  carried-is : Readable width m → carried new ≡ m
   unfolding new
-  carried-new r = ap (messageIn width) (take-over buffer (frame width m)) ∙ frame-message width m (omega arith, omega arith) r
+  carried-is r = ap (messageIn width) (take-over buffer (frame width m)) ∙ frame-message width m (omega arith, omega arith) r
 
-  new-new : Readable width m → New (sends earlier) m (logAt i earlier)
+  -- the message is a new one, whose entries name messages of the log and cover it
+  m-new : Readable width m → New (sends earlier) m (logAt i earlier)
   unfolding newMessage sendDeadline
-  new-new r =
+  m-new r =
       let G = L .sites i in
       let K = G .sound .summary in
       record {
@@ -80,19 +82,21 @@ module _ (earlier : List Made) (L : ListSound earlier) (i : ℕ) (payload : List
     readable : Readable width m
     readable = new-readable p payload lifetime output buffer P (L .sites i .sound .summary .barrier-64) bytes
 
-    new-carried : New (sends earlier) (carried new) (new .past)
+    carried-new : New (sends earlier) (carried new) (new .past)
     unfolding new
-    new-carried = subst⁻¹ (λ x. New (sends earlier) x (logAt i earlier)) (carried-new readable) (new-new readable)
+    carried-new = subst⁻¹ (λ x. New (sends earlier) x (logAt i earlier)) (carried-is readable) (m-new readable)
 
     sends-sound : SendsSound (new ∷ sends earlier)
-    sends-sound = sends-more (L .sends-sound) new new-carried
+    sends-sound = sends-more (L .sends-sound) new carried-new
 
+    -- it is handed with an emptied barrier
     handed-sound : PanelSound (new ∷ sends earlier) (logAt i earlier ++ (nameOf m ∷ [])) (hand (emptied p) m)
     unfolding new
     handed-sound =
-        subst (λ x. PanelSound (new ∷ sends earlier) (logAt i earlier ++ (nameOf x ∷ [])) (hand (emptied p) x)) (carried-new readable)
-        (own-sound (L .sends-sound) new new-carried p (L .sites i .sound) (subst⁻¹ (λ (x : Message). limit p ≤ x .deadline) (carried-new readable) alive))
+        subst (λ x. PanelSound (new ∷ sends earlier) (logAt i earlier ++ (nameOf x ∷ [])) (hand (emptied p) x)) (carried-is readable)
+        (own-sound (L .sends-sound) new carried-new p (L .sites i .sound) (subst⁻¹ (λ (x : Message). limit p ≤ x .deadline) (carried-is readable) alive))
 
+    -- and the panel settles
     keeps : Keeps (new ∷ sends earlier) (logAt i earlier) p (sending p payload lifetime)
     unfolding sending handAndSettle
     keeps = keeps-hand (emptied p) m (λ w k. inr k) (settle-keeps sends-sound (hand (emptied p) m) _ handed-sound)
@@ -113,7 +117,7 @@ module _ (earlier : List Made) (L : ListSound earlier) (i : ℕ) (payload : List
         }
       where
         in-log : name new isIn logWith (logAt i earlier) (sending p payload lifetime .handed)
-        in-log = Memᴰ·append-right (logAt i earlier) (first (ap nameOf (carried-new readable)))
+        in-log = Memᴰ·append-right (logAt i earlier) (first (ap nameOf (carried-is readable)))
 
         placed : (n : Name) → (n isIn name new ∷ site .sent) ⊎ (n isIn site .taken)
             → Placed (logWith (logAt i earlier) (sending p payload lifetime .handed)) (sending p payload lifetime .panel .waiting) (site .time) n
@@ -125,13 +129,14 @@ module _ (earlier : List Made) (L : ListSound earlier) (i : ℕ) (payload : List
         mine s (first e) q = Memᴰ·cast (ap name e) in-log
         mine s (later k) q = Memᴰ·append-left _ (L .sites i .mine s k q)
 
+    -- at the other panels nothing changes
     others : (j : ℕ) → j ≢ i → SiteSound (new ∷ sends earlier) j (siteAt j earlier)
     others j other =
         let G = L .sites j in
         record {
           own = G .own;
           time = G .time;
-          sound = panel-more (L .sends-sound) new new-carried (G .sound);
+          sound = panel-more (L .sends-sound) new carried-new (G .sound);
           few = G .few;
           settled = G .settled;
           placed = G .placed;
@@ -140,7 +145,7 @@ module _ (earlier : List Made) (L : ListSound earlier) (i : ℕ) (payload : List
       where
         mine : (s : Sent) → s isIn new ∷ sends earlier → name s .source ≡ j → name s isIn logAt j earlier
         mine s (first e) q =
-            absurd (other (sym q ∙ ap (λ (a : Sent). name a .source) e ∙ ap (λ (x : Message). x .source) (carried-new readable) ∙ own-source))
+            absurd (other (sym q ∙ ap (λ (a : Sent). name a .source) e ∙ ap (λ (x : Message). x .source) (carried-is readable) ∙ own-source))
         mine s (later k) q = L .sites j .mine s k q
 
     sends-done : sends (made i (send payload lifetime output buffer) result ∷ earlier) ≡ new ∷ sends earlier

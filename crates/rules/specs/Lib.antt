@@ -1,4 +1,5 @@
--- Document 01, in its order: the panel record and its rules, the three calls, what is turned down, what each call gives, and the words of
+-- Document 01, in its order: the panel record and its rules, the three calls, what is turned down, what each call gives, the words of demand 3,
+-- the statement that is proved of them, and the bench cases.
 pub mod Sizes
 pub mod Panel
 pub mod Handing

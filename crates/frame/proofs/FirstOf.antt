@@ -44,17 +44,21 @@ stop checks n p e = sym (p ∙ here checks n e)
 
 -- ---- a table of which the first n checks were gone through
 
+-- each number of the table passes a test
+unfoldable pub eachNumber : (ℕ → Bool) → List (Bool × ℕ) → Bool
+eachNumber test [] = true
+eachNumber test (check ∷ checks) = test (check .1) && eachNumber test checks
+
 -- each number of the table is a refusal's
-unfoldable pub eachRefuses : List (Bool × ℕ) → Bool
-eachRefuses [] = true
-eachRefuses (check ∷ checks) = ltb 0 (check .1) && eachRefuses checks
+abbrev pub eachRefuses : List (Bool × ℕ) → Bool
+eachRefuses checks = eachNumber (ltb 0) checks
 
 passes : (t : Bool) (n rest : ℕ) → ltb 0 n ≡ true → cond t n rest ≡ 0 → (t ≡ false) × (rest ≡ 0)
 passes true n rest r e = absurd (omega (arith, ltb-true 0 n r))
 passes false n rest r e = (refl, e)
 
 pub Past-take : (checks : List (Bool × ℕ)) (n : ℕ) → eachRefuses checks ≡ true → firstOf (take n checks) ≡ 0 → Past checks n
-unfolding firstOf eachRefuses
+unfolding firstOf eachNumber
 Past-take checks zero r e = refl
 Past-take [] (suc n) r e = refl
 Past-take (c ∷ checks) (suc n) r e =
@@ -63,7 +67,7 @@ Past-take (c ∷ checks) (suc n) r e =
     rw (t .0) (Past-take checks n (refuses .1) (t .1))
 
 pub applies-none : (checks : List (Bool × ℕ)) → eachRefuses checks ≡ true → firstOf checks ≡ 0 → (n : ℕ) → applies checks n ≡ false
-unfolding firstOf eachRefuses
+unfolding firstOf eachNumber
 applies-none [] r e n = refl
 applies-none (c ∷ checks) r e n =
     let refuses = and-both (ltb 0 (c .1)) (eachRefuses checks) r in
@@ -74,11 +78,18 @@ applies-none (c ∷ checks) r e n =
     go head tail zero = head
     go head tail (suc i) = tail i
 
+pub firstOf-take : (checks : List (Bool × ℕ)) (n : ℕ) → (firstOf (take n checks) ≡ 0 → ⊥) → firstOf (take n checks) ≡ firstOf checks
+unfolding firstOf
+firstOf-take checks zero h = absurd (h refl)
+firstOf-take [] (suc n) h = absurd (h refl)
+firstOf-take ((true, m) ∷ checks) (suc n) h = refl
+firstOf-take ((false, m) ∷ checks) (suc n) h = firstOf-take checks n h
+
 -- ---- a table in two parts
 
 pub firstOf-append : (checks more : List (Bool × ℕ)) → eachRefuses checks ≡ true → firstOf (checks ++ more) ≡ 0
     → (firstOf checks ≡ 0) × (firstOf more ≡ 0)
-unfolding firstOf eachRefuses
+unfolding firstOf eachNumber
 firstOf-append [] more r e = (refl, e)
 firstOf-append (c ∷ checks) more r e =
     let refuses = and-both (ltb 0 (c .1)) (eachRefuses checks) r in
@@ -88,19 +99,8 @@ firstOf-append (c ∷ checks) more r e =
 
 -- ---- what holds of 0 and of each number of the table holds of the first that applies
 
-unfoldable pub eachNumber : (ℕ → Bool) → List (Bool × ℕ) → Bool
-eachNumber test [] = true
-eachNumber test (check ∷ checks) = test (check .1) && eachNumber test checks
-
 pub firstOf-each : (test : ℕ → Bool) (checks : List (Bool × ℕ)) → test 0 ≡ true → eachNumber test checks ≡ true → test (firstOf checks) ≡ true
 unfolding firstOf eachNumber
 firstOf-each test [] none each = none
 firstOf-each test ((true, n) ∷ checks) none each = and-both (test n) (eachNumber test checks) each .0
 firstOf-each test ((false, n) ∷ checks) none each = firstOf-each test checks none (and-both (test n) (eachNumber test checks) each .1)
-
-pub firstOf-take : (checks : List (Bool × ℕ)) (n : ℕ) → (firstOf (take n checks) ≡ 0 → ⊥) → firstOf (take n checks) ≡ firstOf checks
-unfolding firstOf
-firstOf-take checks zero h = absurd (h refl)
-firstOf-take [] (suc n) h = absurd (h refl)
-firstOf-take ((true, m) ∷ checks) (suc n) h = refl
-firstOf-take ((false, m) ∷ checks) (suc n) h = firstOf-take checks n h

@@ -19,7 +19,7 @@ use Rattle.frame.specs.Answer.{payloadOf, startOf}
 use Rattle.frame.proofs.EachNumber.{eachEarlier-pos, eachEarlier-lt}
 use Rattle.frame.proofs.Entries.{length-byPanel, present-byPanel, byPanel-lt}
 use Rattle.frame.proofs.Readable.{Readable}
-use Rattle.frame.proofs.FirstOf.{eachRefuses, applies-none}
+use Rattle.frame.proofs.FirstOf.{eachNumber, applies-none}
 
 pub record Passed (width : ℕ) (bs : List ℕ) : Type 0 where
   pub long : 19 ≤ length bs
@@ -49,7 +49,7 @@ passed-zero width bs p =
     )
 
 pub zero-passed : (width : ℕ) (bs : List ℕ) → refusal width bs ≡ 0 → Passed width bs
-unfolding checks eachRefuses
+unfolding checks eachNumber
 zero-passed width bs e =
     let passes = applies-none (checks width bs) refl e in
     record {

@@ -14,7 +14,7 @@ use Rattle.frame.specs.Refusal.{firstOf}
 use Rattle.frame.specs.Reading.{checks, refusal, messageIn}
 use Rattle.frame.specs.Readable.{eachBelow, readable}
 use Rattle.frame.proofs.Conjunction.{and-both}
-use Rattle.frame.proofs.FirstOf.{eachRefuses, applies-none, firstOf-append}
+use Rattle.frame.proofs.FirstOf.{eachNumber, applies-none, firstOf-append}
 use Rattle.frame.proofs.EachNumber.{eachBelow-lt, lt-eachBelow}
 use Rattle.frame.proofs.Readable.{Readable, true-readable, readable-true}
 use Rattle.rules.specs.Sizes.{width, lastDeadline, outputLength, bufferLength}
@@ -88,7 +88,7 @@ pub record SendPassed (p : Panel) (payload : List ℕ) (lifetime : ℕ) (output 
 
 pub send-passed : (p : Panel) (payload : List ℕ) (lifetime : ℕ) (output buffer : List ℕ) → firstOf (sendChecks p payload lifetime output buffer) ≡ 0
     → SendPassed p payload lifetime output buffer
-unfolding sendChecks eachRefuses
+unfolding sendChecks eachNumber
 send-passed p payload lifetime output buffer e =
     let none = applies-none (sendChecks p payload lifetime output buffer) refl e in
     let (o, b) = or-neither (ltb (length output) outputLength) (ltb (length buffer) bufferLength) (none 1) in
@@ -128,7 +128,7 @@ pub record ReceivePassed (p : Panel) (bytes output : List ℕ) (m : Message) : T
   pub room : (length (p .waiting) < 32) ⊎ (ready p m ≡ true)
 
 pub receive-passed : (p : Panel) (bytes output : List ℕ) → firstOf (receiveChecks p bytes output) ≡ 0 → ReceivePassed p bytes output (messageIn width bytes)
-unfolding receiveChecks messageChecks eachRefuses checks
+unfolding receiveChecks messageChecks eachNumber checks
 receive-passed p bytes output e =
     let m = messageIn width bytes in
     let start : List (Bool × ℕ) = (broken p, 26) ∷ (ltb (length output) outputLength, 10) ∷ [] in
@@ -157,7 +157,7 @@ pub record ClockPassed (p : Panel) (time : ℕ) (output : List ℕ) : Type 0 whe
   pub later : p .time ≤ time
 
 pub clock-passed : (p : Panel) (time : ℕ) (output : List ℕ) → firstOf (clockChecks p time output) ≡ 0 → ClockPassed p time output
-unfolding clockChecks eachRefuses
+unfolding clockChecks eachNumber
 clock-passed p time output e =
     let none = applies-none (clockChecks p time output) refl e in
     record {

@@ -12,7 +12,7 @@ use Rattle.numbers.specs.Numbers.{numbersAt}
 use Rattle.numbers.proofs.NumberAt.{numberAt-one}
 use Rattle.frame.specs.Refusal.{firstOf}
 use Rattle.frame.specs.Reading.{deadlineIn, countIn, entriesIn, lengthIn, payloadPlace, eachEarlier, checks}
-use Rattle.frame.proofs.FirstOf.{Past, pass, stop, eachRefuses, Past-take, applies-none, firstOf-take}
+use Rattle.frame.proofs.FirstOf.{Past, pass, stop, eachNumber, Past-take, applies-none, firstOf-take}
 use Rattle.frame.proofs.frame_check.Statement.{statement}
 use Rattle.frame.proofs.frame_check.Tie as tie
 
@@ -33,11 +33,11 @@ head-passed : (c : tie.Else1) → firstOf (take 5 (checks 4 (bytes1 c))) ≡ 0
 head-passed c = omega (arith, c .before .head-check .ensures, c .if1 .left)
 
 long : (c : tie.Else1) → 19 ≤ length (bytes1 c)
-unfolding checks eachRefuses
+unfolding checks eachNumber
 long c = ltb-false _ _ (applies-none (take 5 (checks 4 (bytes1 c))) refl (head-passed c) 0)
 
 past1 : (c : tie.Else1) → Past (checks 4 (bytes1 c)) 5
-unfolding checks eachRefuses
+unfolding checks eachNumber
 past1 c = Past-take (checks 4 (bytes1 c)) 5 refl (head-passed c)
 
 past2 : (c : tie.Else2) → Past (checks 4 (bytes2 c)) 6

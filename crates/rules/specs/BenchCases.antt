@@ -8,6 +8,7 @@ use Rattle.frame.specs.Message.{Message, messageOf}
 use Rattle.rules.specs.Panel.{Panel, none64}
 use Rattle.rules.specs.Results.{Call, send, receive, clock, Result, defined}
 
+-- a step: the record and the call that go in, and what comes out
 pub record Step : Type 0 where
   pub panel : Panel
   pub call : Call
@@ -20,6 +21,7 @@ step panel call result = record { panel = panel; call = call; result = result }
 abbrev pub Holds : List Step → Type 0
 Holds steps = map (λ (s : Step). s .result) steps ≡ map (λ (s : Step). defined (s .panel) (s .call)) steps
 
+-- each case of a list holds
 infixr 5 _and_
 pub data EachHolds : List (List Step) → Type 0 where
   finished : EachHolds []
@@ -48,10 +50,11 @@ buffer = replicate 307 7
 abbrev pub logged : List ℕ → List ℕ
 logged bytes = take 38 (bytes ++ replicate 38 0)
 
--- a frame that begins with mark, version, source and the deadline's bytes; without entries eight 00 follow
+-- a frame: mark and version, then these bytes: those up to the last 00 of the mask, and those behind
 abbrev pub frameFrom : List ℕ → List ℕ → List ℕ
 frameFrom start rest = 0x44 ∷ 0x52 ∷ 0x59 ∷ 0x00 ∷ 0x01 ∷ (start ++ rest)
 
+-- the mask of a frame without entries
 abbrev pub zeros8 : List ℕ
 zeros8 = replicate 8 0x00
 

@@ -9,10 +9,10 @@ use lib.Seq.{append-snoc}
 use Rattle.frame.specs.Message.{Message}
 use Rattle.rules.specs.Panel.{Name, nameOf, Panel, ready}
 use Rattle.rules.specs.Handing.{hand}
-use Rattle.rules.specs.Settling.{without, withWaiting, Settled, waitingAt, handAt, settle}
+use Rattle.rules.specs.Settling.{without, withWaiting, Settled, waitingAt, settle}
 use Rattle.rules.specs.Lists.{_isIn_, Sent}
 use Rattle.rules.proofs.WaitingList.{isIn-without, getD-isIn, without-isIn, Distinct-without, Distinct-getD}
-use Rattle.rules.proofs.Settling.{NoneReady, settle-induction}
+use Rattle.rules.proofs.Settling.{NoneReady, handAt, settle-induction}
 use Rattle.rules.proofs.Ready.{limit, dead, limit-withWaiting, dead-withWaiting, ready-withWaiting}
 use Rattle.rules.proofs.Cause.{SendsSound}
 use Rattle.rules.proofs.Sound.{LogSound, SummarySound, WaitingSound, PanelSound}

@@ -9,7 +9,7 @@ use lib.ListN.{length}
 use Rattle.frame.specs.Message.{Message}
 use Rattle.rules.specs.Panel.{Panel, ready}
 use Rattle.rules.specs.Handing.{hand}
-use Rattle.rules.specs.Settling.{choice, without, Settled, waitingAt, handAt, goOn, settleIn, settle}
+use Rattle.rules.specs.Settling.{choice, without, withWaiting, Settled, waitingAt, goOn, settleIn, settle}
 use Rattle.rules.specs.Lists.{_isIn_}
 use Rattle.rules.proofs.Choice.{choice-none, choice-some}
 use Rattle.rules.proofs.WaitingList.{isIn-without, getD-isIn, length-without}
@@ -17,6 +17,10 @@ use Rattle.rules.proofs.WaitingList.{isIn-without, getD-isIn, length-wi
 -- nothing that waits is ready
 abbrev pub NoneReady : Panel → Type 0
 NoneReady p = (w : Message) → w isIn p .waiting → ready p w ≡ false
+
+-- the record after the message at a place left the list and was handed
+abbrev pub handAt : Panel → ℕ → Panel
+handAt p place = hand (withWaiting p (without place (p .waiting))) (waitingAt p place)
 
 length-handAt : (p : Panel) (place : ℕ) → place < length (p .waiting) → suc (length (handAt p place .waiting)) ≡ length (p .waiting)
 unfolding hand

@@ -4,14 +4,11 @@ use mathlib.Core.Bool.{cond}
 use mathlib.Core.List.{List, [], _∷_, _++_}
 use Rattle.frame.specs.Message.{Message, messageOf}
 use Rattle.rules.specs.Panel.{Panel, none64, lapsed, ready}
-use Rattle.rules.specs.Handing.{hand}
-use Rattle.rules.specs.Settling.{Settled, withWaiting, settle}
+use Rattle.rules.specs.Settling.{Settled, withWaiting, handThen, settle}
 
 -- a message is handed, and the panel settles
 unfoldable pub handAndSettle : Panel → Message → Settled
-handAndSettle p m =
-    let rest = settle (hand p m) in
-    record { panel = rest .panel; handed = m ∷ rest .handed }
+handAndSettle p m = handThen settle p m
 
 -- ---- Send
 

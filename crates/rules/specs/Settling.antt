@@ -42,16 +42,16 @@ pub record Settled : Type 0 where
 abbrev pub waitingAt : Panel → ℕ → Message
 waitingAt p place = getD (p .waiting) place (messageOf 0 0 [] [])
 
--- the message at a place leaves the list and is handed
-abbrev pub handAt : Panel → ℕ → Panel
-handAt p place = hand (withWaiting p (without place (p .waiting))) (waitingAt p place)
+-- a message is handed, and settling goes on with the record that is left
+abbrev pub handThen : (Panel → Settled) → Panel → Message → Settled
+handThen settle p m =
+    let rest = settle (hand p m) in
+    record { panel = rest .panel; handed = m ∷ rest .handed }
 
--- and settling goes on with the record that is left
+-- the one at the place chosen leaves the list and is handed; where none is chosen, the record has settled
 unfoldable pub goOn : (Panel → Settled) → Panel → Option ℕ → Settled
 goOn settle p none = record { panel = p; handed = [] }
-goOn settle p (some place) =
-    let rest = settle (handAt p place) in
-    record { panel = rest .panel; handed = waitingAt p place ∷ rest .handed }
+goOn settle p (some place) = handThen settle (withWaiting p (without place (p .waiting))) (waitingAt p place)
 
 -- settling, where at most so many messages leave
 unfoldable pub settleIn : ℕ → Panel → Settled

@@ -1,0 +1,2 @@
+-- The record while it settles.
+pub mod Record

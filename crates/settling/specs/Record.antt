@@ -1,0 +1,108 @@
+-- The record while it settles, and what the functions on it ensure.
+use Prim.Native.Nat.{ℕ, _+_, _*_, _<_, max}
+use mathlib.Core.Path.{_≡_}
+use mathlib.Core.Bool.{Bool, true, false, cond, not, _&&_, _||_}
+use mathlib.Core.Option.{Option, none, some}
+use mathlib.Core.List.{List, []}
+use lib.ListN.{length, getD, take}
+use lib.Dec.{ltb, eqb}
+use Rattle.numbers.specs.Buffer.{over}
+use Rattle.frame.specs.Message.{Message, messageOf}
+use Rattle.rules.specs.Sizes.{logRecordLength}
+use Rattle.rules.specs.Panel.{Panel}
+use Rattle.rules.specs.Handing.{hand, logRecord, logRecords}
+use Rattle.rules.specs.Settling.{settle, without, withWaiting, waitingAt}
+use Rattle.slots.specs.Slots.{Listed, held}
+use Rattle.settling.specs.declared.Settling.{Settling}
+use Rattle.settling.specs.declared.First.{First}
+
+-- a record of these marks and this time, which is all that ready asks for
+abbrev pub asking : List ℕ → ℕ → Panel
+asking marks time = record { own = 0; time = time; high = 0; marks = marks; barrier = []; waiting = [] }
+
+-- ---- the choice
+
+-- what is found where that place of the list ms is chosen, which begins at a place of the whole list
+abbrev pub firstIn : ℕ → List Message → Option ℕ → First
+firstIn at ms none = record { found = false; place = 0; deadline = 0; source = 0 }
+firstIn at ms (some place) =
+    let m = getD ms place (messageOf 0 0 [] []) in
+    record { found = true; place = at + place; deadline = m .deadline; source = m .source }
+
+-- one was found, of lower deadline, then of lower source
+abbrev pub soonerThan : First → ℕ → ℕ → Bool
+soonerThan first deadline source =
+    first .found && (ltb (first .deadline) deadline || eqb (first .deadline) deadline && ltb (first .source) source)
+
+-- a message at a place against the first among the later ones: it is the first, unless it is not ready or that one is sooner
+abbrev pub considered : Bool → ℕ → Message → First → First
+considered ready place m first =
+    cond (not (soonerThan first (m .deadline) (m .source)) && ready)
+    (record { found = true; place = place; deadline = m .deadline; source = m .source })
+    first
+
+-- ---- handing
+
+-- a message that is not listed was handed
+abbrev pub oneHanded : Settling → Message → Settling
+oneHanded s m =
+    record {
+      own = s .own;
+      time = s .time;
+      high = max (s .high) (m .deadline);
+      waiting = s .waiting;
+      places = s .places;
+      handed = s .handed + 1;
+    }
+
+-- ---- settling
+
+-- where settling stands: what is left, and what is lent beside the slots
+pub record Stage : Type 0 where
+  pub left : Settling
+  pub marks : List ℕ
+  pub barrier : List ℕ
+  pub output : List ℕ
+
+abbrev pub stage : Settling → List ℕ → List ℕ → List ℕ → Stage
+stage left marks barrier output = record { left = left; marks = marks; barrier = barrier; output = output }
+
+-- the record that is left: the messages in the slots listed are waiting
+abbrev pub panelAt : List ℕ → Stage → Panel
+panelAt slots s =
+    record {
+      own = s .left .own;
+      time = s .left .time;
+      high = s .left .high;
+      marks = s .marks;
+      barrier = s .barrier;
+      waiting = held slots (take (s .left .waiting) (s .left .places));
+    }
+
+-- the place in the output behind the log records written
+abbrev pub outputPlace : Settling → ℕ
+outputPlace left = left .handed * logRecordLength
+
+-- the place has left the list, and nothing else has changed
+pub record Leaves (place : ℕ) (before after : Settling) : Type 0 where
+  pub own : after .own ≡ before .own
+  pub time : after .time ≡ before .time
+  pub high : after .high ≡ before .high
+  pub handed : after .handed ≡ before .handed
+  pub waiting : after .waiting + 1 ≡ before .waiting
+  pub places : (k : ℕ) → k < after .waiting → getD (after .places) k 0 ≡ getD (before .places) (cond (ltb k place) k (k + 1)) 0
+
+-- the message at a place has left the list and was handed
+pub record HandedAt (slots : List ℕ) (place : ℕ) (before after : Stage) : Type 0 where
+  pub panel : panelAt slots after ≡ hand (withWaiting (panelAt slots before) (without place (panelAt slots before .waiting))) (waitingAt (panelAt slots before) place)
+  pub output : after .output ≡ over (before .output) (outputPlace (before .left)) (logRecord (waitingAt (panelAt slots before) place))
+  pub handed : after .left .handed ≡ before .left .handed + 1
+  pub waiting : after .left .waiting + 1 ≡ before .left .waiting
+  pub listed : Listed slots (after .left .waiting) (after .left .places)
+
+-- the record has settled, and the log records of the messages handed stand in the output
+pub record Settles (slots : List ℕ) (before after : Stage) : Type 0 where
+  pub panel : panelAt slots after ≡ settle (panelAt slots before) .panel
+  pub output : after .output ≡ over (before .output) (outputPlace (before .left)) (logRecords (settle (panelAt slots before) .handed))
+  pub handed : after .left .handed ≡ before .left .handed + length (settle (panelAt slots before) .handed)
+  pub listed : Listed slots (after .left .waiting) (after .left .places)

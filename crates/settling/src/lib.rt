@@ -1,0 +1,255 @@
+// Settling: which waiting messages are ready, which of them goes first, and handing it. An internal
+// crate: its functions ask their callers for readable frames and for room, and the calls of a panel,
+// which refuse anything else, give them.
+use numbers::number_at;
+use numbers::put_bytes;
+use numbers::put_number;
+use slots::deadline;
+use slots::frame_at;
+use slots::source;
+ghost use mathlib.Core.Path.{_≡_};
+ghost use mathlib.Core.List.{[], _∷_};
+ghost use Prim.Native.Nat.{_+_, _*_, _≤_, _<_, max};
+ghost use lib.ListN.{length, take, replicate};
+ghost use Rattle.numbers.specs.Buffer.{over};
+ghost use Rattle.frame.specs.Reading.{messageIn};
+ghost use Rattle.rules.specs.Panel.{met};
+ghost use Rattle.rules.specs.Panel.{ready as isReady};
+ghost use Rattle.rules.specs.Handing.{raise, logRecord};
+ghost use Rattle.rules.specs.Settling.{choice as choiceIn};
+ghost use Rattle.slots.specs.Slots.{Reads, Slots, Listed, held};
+ghost use Rattle.settling.specs.Record.{asking, firstIn, soonerThan, considered, oneHanded, Leaves, stage, HandedAt, Settles};
+
+// The record while it settles, but for what is lent: which slots are still waiting, so many of the
+// places in order, and how many log records have been written.
+#[repr(C)]
+pub struct Settling {
+    pub own: u8,
+    pub time: u32,
+    pub high: u32,
+    pub waiting: usize,
+    pub places: [u8; 32],
+    pub handed: usize,
+}
+
+// The message that goes first among those looked at, if one of them is ready.
+struct First {
+    found: bool,
+    place: usize,
+    deadline: u32,
+    source: u8,
+}
+
+// Whether an entry is met by its panel's mark, or has lapsed.
+fn is_met(entry: u32, mark: u32, time: u32) -> bool
+    ensures { λ r. ⌜ r ≡ met (asking (mark ∷ []) time) 0 entry ⌝ }
+{
+    if entry <= mark {
+        return true;
+    }
+    entry < time
+}
+
+// Whether the message of a readable frame is ready: from set bit to set bit of its mask.
+pub fn ready(frame: &[u8], marks: &[u32; 64], time: u32) -> bool
+    requires { ⌜ Reads (now frame) ⌝ }
+    ensures { λ r. ⌜ r ≡ isReady (asking (now (marks .entry)) time) (messageIn 4 (now (frame .entry))) ⌝ }
+{
+    let mut bits = number_at(frame, 10, 8);
+    let mut at = 18;
+    let mut panel: usize = 0;
+    while bits != 0 {
+        let zeros = u64::trailing_zeros(bits);
+        panel = panel + zeros as usize;
+        let entry = number_at(frame, at, 4) as u32;
+        if !is_met(entry, marks[panel], time) {
+            return false;
+        }
+        bits = (bits >> zeros) / 2;
+        panel += 1;
+        at += 4;
+    }
+    true
+}
+
+// Whether the one found goes before a message that stands ahead of it in the list.
+fn is_sooner(first: First, deadline: u32, source: u8) -> bool
+    ensures { λ r. ⌜ r ≡ soonerThan first deadline source ⌝ }
+{
+    if !first.found {
+        return false;
+    }
+    if first.deadline != deadline {
+        return first.deadline < deadline;
+    }
+    first.source < source
+}
+
+// The message at that place of the list against the one that goes first among the later ones.
+fn consider(first: First, place: usize, frame: &[u8], marks: &[u32; 64], time: u32) -> First
+    requires { ⌜ Reads (now frame) ⌝ }
+    ensures { λ r. ⌜ r ≡ considered (isReady (asking (now (marks .entry)) time) (messageIn 4 (now (frame .entry))))
+        place (messageIn 4 (now (frame .entry))) first ⌝ }
+{
+    let deadline = deadline(frame);
+    let source = source(frame);
+    if is_sooner(first, deadline, source) {
+        return first;
+    }
+    if !ready(frame, marks, time) {
+        return first;
+    }
+    First {
+        found: true,
+        place,
+        deadline,
+        source,
+    }
+}
+
+// The ready one of lowest deadline, then lowest source, then earliest in the list.
+fn choice<'a, 'b, 'c>(
+    waiting: usize,
+    places: &'a [u8; 32],
+    marks: &'b [u32; 64],
+    time: u32,
+    slots: &'c [u8],
+) -> First
+    requires { ⌜ Slots (now slots) × Listed (now slots) waiting (now places) × (length (now places) ≡ 32) ⌝ }
+    ensures { λ r. ⌜ r ≡ firstIn 0 (held (now (slots .entry)) (take waiting (now (places .entry))))
+        (choiceIn (asking (now (marks .entry)) time) (held (now (slots .entry)) (take waiting (now (places .entry))))) ⌝ }
+{
+    let mut first = First {
+        found: false,
+        place: 0,
+        deadline: 0,
+        source: 0,
+    };
+    let mut place = waiting;
+    while 0 < place {
+        place -= 1;
+        let slot = places[place] as usize;
+        first = consider(first, place, frame_at(slots, slot), marks, time);
+    }
+    first
+}
+
+// Puts zeros from a place on.
+fn put_zeros(buffer: &mut [u8], at: usize, count: usize)
+    requires { ⌜ at + count ≤ length (now buffer) ⌝ }
+    ensures { λ _. ⌜ now (buffer .exit) ≡ over (now (buffer .entry)) at (replicate count 0) ⌝ }
+{
+    let mut i = 0;
+    while i < count {
+        buffer[at + i] = 0;
+        i += 1;
+    }
+}
+
+// Puts the log record of a readable frame's message at the start of a part of the output.
+fn put_log_record(part: &mut [u8], frame: &[u8])
+    requires { ⌜ (38 ≤ length (now part)) × Reads (now frame) ⌝ }
+    ensures { λ _. ⌜ now (part .exit) ≡ over (now (part .entry)) 0 (logRecord (messageIn 4 (now (frame .entry)))) ⌝ }
+{
+    let start = 19 + 4 * (u64::count_ones(number_at(frame, 10, 8)) as usize);
+    let length = frame.len() - start;
+    put_number(part, 0, 1, source(frame) as u64);
+    put_number(part, 1, 4, deadline(frame) as u64);
+    put_number(part, 5, 1, length as u64);
+    put_bytes(part, 6, &frame[start..]);
+    put_zeros(part, 6 + length, 32 - length);
+}
+
+// The larger of two numbers.
+fn larger(a: u32, b: u32) -> u32
+    ensures { λ r. ⌜ r ≡ max a b ⌝ }
+{
+    if a < b {
+        return b;
+    }
+    a
+}
+
+// Hands the message of a readable frame. Its log record stands behind those of the messages handed
+// before it.
+pub fn hand(
+    s: Settling,
+    marks: &mut [u32; 64],
+    barrier: &mut [u32; 64],
+    frame: &[u8],
+    output: &mut [u8],
+) -> Settling
+    requires { ⌜ Reads (now frame) × (s .handed * 38 + 38 ≤ length (now output)) ⌝ }
+    ensures { λ r. ⌜ (r ≡ oneHanded s (messageIn 4 (now (frame .entry))))
+        × (now (marks .exit) ≡ raise (now (marks .entry)) (messageIn 4 (now (frame .entry))))
+        × (now (barrier .exit) ≡ raise (now (barrier .entry)) (messageIn 4 (now (frame .entry))))
+        × (now (output .exit) ≡ over (now (output .entry)) (s .handed * 38) (logRecord (messageIn 4 (now (frame .entry))))) ⌝ }
+{
+    let at = s.handed * 38;
+    put_log_record(&mut output[at..], frame);
+    let deadline = deadline(frame);
+    let source = source(frame) as usize;
+    marks[source] = larger(marks[source], deadline);
+    barrier[source] = larger(barrier[source], deadline);
+    let mut rest = s;
+    rest.high = larger(rest.high, deadline);
+    rest.handed += 1;
+    rest
+}
+
+// The slot at that place leaves the list.
+fn leave(s: Settling, place: usize) -> Settling
+    requires { ⌜ (s .waiting ≤ 32) × (place < s .waiting) ⌝ }
+    ensures { λ r. ⌜ Leaves place s r ⌝ }
+{
+    let mut rest = s;
+    let last = s.waiting - 1;
+    let mut i = place;
+    while i < last {
+        rest.places[i] = rest.places[i + 1];
+        i += 1;
+    }
+    rest.waiting = last;
+    rest
+}
+
+// The message at that place leaves the list and is handed.
+fn hand_at(
+    s: Settling,
+    place: usize,
+    marks: &mut [u32; 64],
+    barrier: &mut [u32; 64],
+    slots: &[u8],
+    output: &mut [u8],
+) -> Settling
+    requires { ⌜ Slots (now slots) × Listed (now slots) (s .waiting) (s .places) ⌝ }
+    requires { ⌜ (place < s .waiting) × ((s .handed + s .waiting) * 38 ≤ length (now output)) ⌝ }
+    ensures { λ r. ⌜ HandedAt (now (slots .entry)) place (stage s (now (marks .entry)) (now (barrier .entry)) (now (output .entry)))
+        (stage r (now (marks .exit)) (now (barrier .exit)) (now (output .exit))) ⌝ }
+{
+    let slot = s.places[place] as usize;
+    let rest = leave(s, place);
+    hand(rest, marks, barrier, frame_at(slots, slot), output)
+}
+
+// While some waiting message is ready, the chosen one leaves the list and is handed, and settling
+// goes on with the record that is left.
+pub fn settle(
+    s: Settling,
+    marks: &mut [u32; 64],
+    barrier: &mut [u32; 64],
+    slots: &[u8],
+    output: &mut [u8],
+) -> Settling
+    requires { ⌜ Slots (now slots) × Listed (now slots) (s .waiting) (s .places) ⌝ }
+    requires { ⌜ (s .handed + s .waiting) * 38 ≤ length (now output) ⌝ }
+    ensures { λ r. ⌜ Settles (now (slots .entry)) (stage s (now (marks .entry)) (now (barrier .entry)) (now (output .entry)))
+        (stage r (now (marks .exit)) (now (barrier .exit)) (now (output .exit))) ⌝ }
+{
+    let first = choice(s.waiting, &s.places, marks, s.time, slots);
+    if !first.found {
+        return s;
+    }
+    let rest = hand_at(s, first.place, marks, barrier, slots, output);
+    settle(rest, marks, barrier, slots, output)
+}

@@ -1,0 +1,77 @@
+-- Frames that move up to the first slots. Assumes nothing.
+use mathlib.Core.Path.{_≡_, refl, sym, ap, _∙_}
+use mathlib.Core.List.{List}
+use mathlib.Core.Logic.{⊎-elim}
+use Prim.Native.Nat.{ℕ, suc, _+_, _*_, _≤_, _<_}
+use native.Mathlib.Nat.{eq-or-lt-of-le}
+use native.Mathlib.Omega.{arith}
+use lib.ListN.{length, getD, take, drop, length-drop}
+use lib.Seq.{length-take-le}
+use Rattle.numbers.specs.Numbers.{numberAt}
+use Rattle.numbers.specs.Buffer.{over}
+use Rattle.numbers.proofs.NumberAt.{numberAt-drop}
+use Rattle.numbers.proofs.Over.{length-over}
+use Rattle.rules.specs.Sizes.{bufferLength}
+use Rattle.slots.specs.Slots.{slotLength, Slots, Reads, Listed, frameAt}
+use Rattle.slots.proofs.Framed.{lengthAt, reads-lengthAt, numberAt-take}
+use Rattle.slots.proofs.Writing.{frameAt-before, frameAt-behind, frameAt-here, framed-slot}
+
+-- the first slots hold the frames of the places, and the others their own
+pub record Moving (before places : List ℕ) (slot : ℕ) (slots : List ℕ) : Type 0 where
+  pub moved : (k : ℕ) → k < slot → frameAt slots k ≡ frameAt before (getD places k 0)
+  pub others : (k : ℕ) → slot ≤ k → frameAt slots k ≡ frameAt before k
+  pub size : Slots slots
+
+pub moving-none : (before places : List ℕ) → Slots before → Moving before places 0 before
+moving-none before places size = record { moved = λ k lt. absurd (omega arith); others = λ k le. refl; size = size }
+
+module _ (before places : List ℕ) (slot count : ℕ) (slots : List ℕ) (moving : Moving before places slot slots) (listed : Listed before count places) (lt : slot < count) where
+  -- the frame at the place has not moved
+  pub reads-place : Reads (frameAt slots (getD places slot 0))
+  reads-place = rw (moving .others (getD places slot 0) (listed .rises slot lt)) (listed .reads slot lt)
+
+  reads-moved : (k : ℕ) → k < slot → Reads (frameAt slots k)
+  reads-moved k l = rw (moving .moved k l) (listed .reads k (omega arith))
+
+  one-more : (after : List ℕ) → Slots after → frameAt after slot ≡ frameAt slots (getD places slot 0)
+      → ((k : ℕ) → k < slot → frameAt after k ≡ frameAt slots k) → ((k : ℕ) → slot < k → frameAt after k ≡ frameAt slots k) → Moving before places (suc slot) after
+  one-more after size here low high =
+      record {
+        moved = λ k l.
+            ⊎-elim
+            (λ (e : suc k ≡ suc slot).
+            let same : k ≡ slot = omega arith in
+            rw same (here ∙ moving .others (getD places slot 0) (listed .rises slot lt)))
+            (λ (l′ : suc k < suc slot). low k (omega arith) ∙ moving .moved k (omega arith))
+            (eq-or-lt-of-le l);
+        others = λ k l. high k l ∙ moving .others k (omega arith);
+        size = size;
+      }
+
+  -- a frame in its place already
+  pub moving-stays : getD places slot 0 ≤ slot → Moving before places (suc slot) slots
+  moving-stays le =
+      let same : slot ≡ getD places slot 0 = omega (arith, listed .rises slot lt) in
+      one-more slots (moving .size) (ap (frameAt slots) same) (λ k l. refl) (λ k l. refl)
+
+  -- a frame that moves up
+  pub moving-moves : slot < getD places slot 0
+      → Moving before places (suc slot)
+      (over slots (slot * slotLength) (take (2 + lengthAt slots (getD places slot 0)) (drop (getD places slot 0 * slotLength) slots)))
+  moving-moves up =
+      let place = getD places slot 0 in
+      let n = 2 + lengthAt slots (getD places slot 0) in
+      let bs = take n (drop (place * slotLength) slots) in
+      let short = reads-lengthAt slots place reads-place in
+      let low = listed .below slot lt in
+      let size = moving .size in
+      let length-bs : length (take (2 + lengthAt slots (getD places slot 0)) (drop (getD places slot 0 * slotLength) slots)) ≡ 2 + lengthAt slots (getD places slot 0)
+      = length-take-le n (drop (place * slotLength) slots) (rw length-drop (omega arith)) in
+      let room : slot * slotLength + length (take (2 + lengthAt slots (getD places slot 0)) (drop (getD places slot 0 * slotLength) slots)) ≤ length slots = omega arith in
+      let number : numberAt (take (2 + lengthAt slots (getD places slot 0)) (drop (getD places slot 0 * slotLength) slots)) 0 2 ≡ lengthAt slots (getD places slot 0)
+      = numberAt-take n (drop (place * slotLength) slots) (omega arith) ∙ sym (numberAt-drop slots (place * slotLength) 2) in
+      one-more (over slots (slot * slotLength) bs)
+      (length-over slots (slot * slotLength) bs room ∙ size)
+      (frameAt-here slots (slot * slotLength) bs room slot refl (omega (arith, length-bs, number)) ∙ framed-slot slots place (omega arith))
+      (λ k l. frameAt-before slots (slot * slotLength) bs room k (omega arith) (reads-lengthAt slots k (reads-moved k l)))
+      (λ k l. frameAt-behind slots (slot * slotLength) bs room k (omega arith))

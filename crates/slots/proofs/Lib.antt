@@ -1,0 +1,7 @@
+-- Laws of the slots.
+pub mod Framed
+pub mod Held
+pub mod Tests
+pub mod Writing
+pub mod Collecting
+pub mod Gathering

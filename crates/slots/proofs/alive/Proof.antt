@@ -1,0 +1,87 @@
+-- `slots::alive` meets its contract: after so many slots those that are alive are listed. Assumes nothing.
+use Prim.Native.Nat.{_-_, _≤_}
+use mathlib.Core.Path.{_≡_, refl}
+use mathlib.Core.Logic.{⊎-elim}
+use native.Mathlib.Numerals.{add-one}
+use native.Mathlib.Omega.{arith}
+use lib.ListN.{length, length-set}
+use Rattle.slots.specs.Slots.{held, firstSlots}
+use Rattle.slots.proofs.Collecting.{Chosen, chosen-none, chosen-lapsed, chosen-alive, chosen-all}
+use Rattle.slots.proofs.alive.Statement.{statement}
+use Rattle.slots.proofs.alive.Tie as tie
+
+abbrev Inv-loop : tie.InvT-loop
+Inv-loop slots count time places₀ kept₀ slot₀ places kept slot = (slot ≤ count) × Chosen slots time slot places kept × (length places ≡ 32)
+
+abbrev μ-loop : tie.MeasureT-loop
+μ-loop slots count time places₀ kept₀ slot₀ places kept slot = count - slot
+
+loop-holds : tie.Need-loop-holds Inv-loop μ-loop
+loop-holds c = (omega arith, chosen-none _ _ _, refl)
+
+frame-at-requires : tie.Need-frame-at-requires Inv-loop μ-loop
+frame-at-requires c κs = let s = c .before .before .before in (s .pre .0, omega (arith, s .pre .1 .few))
+
+deadline-requires : tie.Need-deadline-requires Inv-loop μ-loop
+deadline-requires c κs =
+    let s = c .before .before .before .before in
+    rw (c .frame-at .ensures) (s .pre .1 .reads (c .before .before .loop .slot) (omega arith))
+
+cast-places : tie.Need-cast-places Inv-loop μ-loop
+cast-places c = omega (arith, c .before .before .before .before .before .before .pre .1 .few)
+
+array-write-places : tie.Need-array-write-places Inv-loop μ-loop
+array-write-places c =
+    let l = c .before .before .before .before .loop in
+    omega (arith, l .inv .1 .few, c .before .before .before .before .before .before .pre .1 .few)
+
+add-kept : tie.Need-add-kept Inv-loop μ-loop
+add-kept c =
+    let l = c .before .before .before .before .loop in
+    omega (arith, l .inv .1 .few, c .before .before .before .before .before .before .pre .1 .few)
+
+add-slot : tie.Need-add-slot Inv-loop μ-loop
+add-slot c = omega (arith, c .before .before .before .before .before .before .pre .1 .few)
+
+loop-less : tie.Need-loop-less Inv-loop μ-loop
+loop-less c = omega arith
+
+loop-again : tie.Need-loop-again Inv-loop μ-loop
+loop-again c =
+    let s = c .before .before .before .before .before .before in
+    let a = s .args in
+    let l = c .before .before .before .before .loop in
+    let due = rw (c .before .before .frame-at .ensures) at (c .before .deadline .ensures) in
+    let reads = s .pre .1 .reads (l .slot) (omega arith) in
+    ⊎-elim
+    (λ w. (
+      omega arith,
+      rw (w .1, w .2, add-one, add-one) (chosen-alive _ _ _ _ _ (l .inv .1) reads (omega (arith, l .inv .1 .few, s .pre .1 .few, l .inv .2)) (omega (arith, due, w .0 .taken))),
+      rw (w .1, length-set) (l .inv .2),
+    ))
+    (λ w. (omega arith, rw (w .1, w .2, add-one) (chosen-lapsed _ _ _ _ _ (l .inv .1) reads (omega (arith, due, w .0 .left))), rw (w .1) (l .inv .2)))
+    (c .if1 .came)
+
+returns : tie.Need-returns Inv-loop μ-loop
+returns c =
+    let s = c .before .before .before in
+    let l = c .before .loop in
+    let e : l .slot ≡ s .args .count = omega arith in
+    chosen-all (s .args .slots .now) (s .args .count) (s .args .time) (record { count = l .kept; slots = l .places }) (s .pre .1 .few) (rw e at (l .inv .1))
+
+pub alive-spec : {M : Type 1} → statement M
+alive-spec =
+    tie.close
+    (tie.spec
+    Inv-loop
+    μ-loop
+    loop-holds
+    frame-at-requires
+    deadline-requires
+    cast-places
+    array-write-places
+    add-kept
+    add-slot
+    loop-less
+    loop-again
+    returns)

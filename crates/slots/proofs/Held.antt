@@ -60,7 +60,7 @@ firstSlots-suc n = let e : 0 + n ≡ n = omega arith in upFrom-snoc 0 n ∙ ap (
 pub firstSlots-set : (places : List ℕ) (n : ℕ) → n < length places → take n places ≡ firstSlots n → take (suc n) (set places n n) ≡ firstSlots (suc n)
 firstSlots-set places n lt e = take-suc-set places n n lt ∙ ap (λ (l : List ℕ). l ++ (n ∷ [])) e ∙ sym (firstSlots-suc n)
 
-length-upFrom : (first n : ℕ) → length (upFrom first n) ≡ n
+pub length-upFrom : (first n : ℕ) → length (upFrom first n) ≡ n
 unfolding upFrom
 length-upFrom first zero = refl
 length-upFrom first (suc n) = ap suc (length-upFrom (suc first) n)
@@ -71,7 +71,7 @@ getD-upFrom first zero k lt = absurd (omega arith)
 getD-upFrom first (suc n) zero lt = omega arith
 getD-upFrom first (suc n) (suc k) lt = getD-upFrom (suc first) n k (omega arith) ∙ omega arith
 
-take-upFrom : (first n k : ℕ) → k ≤ n → take k (upFrom first n) ≡ upFrom first k
+pub take-upFrom : (first n k : ℕ) → k ≤ n → take k (upFrom first n) ≡ upFrom first k
 unfolding upFrom
 take-upFrom first n zero le = refl
 take-upFrom first zero (suc k) le = absurd (omega arith)

@@ -5,3 +5,4 @@ pub mod Tests
 pub mod Writing
 pub mod Collecting
 pub mod Gathering
+pub mod Kept

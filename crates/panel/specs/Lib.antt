@@ -1,0 +1,2 @@
+-- The record that the struct holds, and what the calls' answers say.
+pub mod Record

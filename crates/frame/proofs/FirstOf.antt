@@ -97,6 +97,20 @@ firstOf-append (c ∷ checks) more r e =
     let rest = firstOf-append checks more (refuses .1) (t .1) in
     (rw (t .0) (rest .0), rest .1)
 
+pub firstOf-left : (checks more : List (Bool × ℕ)) → (firstOf checks ≡ 0 → ⊥) → firstOf (checks ++ more) ≡ firstOf checks
+unfolding firstOf
+firstOf-left [] more h = absurd (h refl)
+firstOf-left ((true, m) ∷ checks) more h = refl
+firstOf-left ((false, m) ∷ checks) more h = firstOf-left checks more h
+
+pub firstOf-right : (checks more : List (Bool × ℕ)) → eachRefuses checks ≡ true → firstOf checks ≡ 0 → firstOf (checks ++ more) ≡ firstOf more
+unfolding firstOf eachNumber
+firstOf-right [] more r e = refl
+firstOf-right (c ∷ checks) more r e =
+    let refuses = and-both (ltb 0 (c .1)) (eachRefuses checks) r in
+    let t = passes (c .0) (c .1) (firstOf checks) (refuses .0) e in
+    rw (t .0) (firstOf-right checks more (refuses .1) (t .1))
+
 -- ---- what holds of 0 and of each number of the table holds of the first that applies
 
 pub firstOf-each : (test : ℕ → Bool) (checks : List (Bool × ℕ)) → test 0 ≡ true → eachNumber test checks ≡ true → test (firstOf checks) ≡ true

@@ -10,7 +10,7 @@ use lib.Count.{onesIn}
 use Rattle.frame.specs.Message.{bit, maskOf, byPanel}
 use Rattle.frame.proofs.Entries.{maskOf-mod, maskOf-div}
 
-div-half : (n s : ℕ) → n / 2 / 2 ^ s ≡ n / 2 ^ suc s
+pub div-half : (n s : ℕ) → n / 2 / 2 ^ s ≡ n / 2 ^ suc s
 div-half n s = rw (div-div-eq-div-mul, pow-suc, mul-comm (2 ^ s) 2)
 
 pub bit-maskOf : (es : List ℕ) (s : ℕ) → maskOf es / 2 ^ s % 2 ≡ bit (getD es s 0)

@@ -5,7 +5,7 @@ use Prim.Native.Nat.{ℕ, _+_, _≤_}
 use native.Mathlib.Nat.{add-zero}
 use native.Mathlib.Omega.{arith}
 use lib.ListN.{length, take, drop, length-append, length-take, length-drop, take-append-drop}
-use lib.Seq.{paste, take-at, drop-drop, take-length, drop-append-add}
+use lib.Seq.{paste, take-at, drop-drop, take-length, length-take-le, drop-append-add}
 use Rattle.numbers.specs.Buffer.{over}
 
 -- nothing put
@@ -22,12 +22,12 @@ pub over-paste : (buffer : List ℕ) (at : ℕ) (bs : List ℕ) (n : ℕ) → n 
 unfolding over
 over-paste buffer at bs n e = rw (e, take-length)
 
--- put one behind the other
-pub over-over : (buffer : List ℕ) (at : ℕ) (xs : List ℕ) (behind : ℕ) (ys : List ℕ) → behind ≡ at + length xs → behind + length ys ≤ length buffer
+-- put one behind the other, wherever the second ends
+pub over-over : (buffer : List ℕ) (at : ℕ) (xs : List ℕ) (behind : ℕ) (ys : List ℕ) → behind ≡ at + length xs → at ≤ length buffer
     → over (over buffer at xs) behind ys ≡ over buffer at (xs ++ ys)
 unfolding over
 over-over buffer at xs behind ys e h =
-    let front : length (take at buffer ++ xs) ≡ behind = simp (length-append, length-take) (omega arith) in
+    let front : length (take at buffer ++ xs) ≡ behind = simp length-append (omega (arith, length-take-le at buffer h)) in
     let t : take behind (over buffer at xs) ≡ take at buffer ++ xs = take-at (take at buffer ++ xs) (drop (at + length xs) buffer) behind front in
     let q : at + length xs + length ys ≡ at + length (xs ++ ys) = omega (arith, length-append xs ys) in
     let d : drop (behind + length ys) (over buffer at xs) ≡ drop (at + length (xs ++ ys)) buffer =

@@ -1,1 +1,8 @@
--- Laws of the calls.
+-- Laws of the calls: their checks, taking a message, and their answers.
+pub mod Refusing
+pub mod MessageChecks
+pub mod Checking
+pub mod Taking
+pub mod Answering
+pub mod Clocking
+pub mod Receiving

@@ -82,5 +82,6 @@ pub record Taken (m : Message) (slots : List ℕ) (before : Stage) (slots′ : L
   pub panel : panelAt slots′ after ≡ taking (panelAt slots before) m
   pub output : after .output ≡ over (before .output) (outputPlace (before .left)) (logRecords (handedAtOnce (panelAt slots before) m))
   pub handed : after .left .handed ≡ before .left .handed + length (handedAtOnce (panelAt slots before) m)
+  pub one-more : after .left .handed + after .left .waiting ≡ before .left .handed + before .left .waiting + 1
   pub listed : Listed slots′ (after .left .waiting) (after .left .places)
   pub size : Slots slots′

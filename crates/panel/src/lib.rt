@@ -16,6 +16,7 @@ use slots::put_frame;
 use slots::source;
 ghost use mathlib.Core.Path.{_≡_};
 ghost use mathlib.Core.Bool.{true};
+ghost use mathlib.Core.Logic.{_⊎_};
 ghost use mathlib.Core.List.{[]};
 ghost use Prim.Native.Nat.{_+_, _*_, _≤_, _<_};
 ghost use lib.ListN.{length};
@@ -76,7 +77,7 @@ pub struct Clocked {
 }
 
 // The panel of that number, fresh.
-fn fresh(own: u8) -> Panel
+fn fresh_panel(own: u8) -> Panel
     ensures { λ r. ⌜ recordOf r ≡ freshPanel own ⌝ }
 {
     let marks = [0u32; 64];
@@ -101,17 +102,18 @@ pub extern "C" fn panel_fresh(own: u8) -> Fresh
     if 63 < own {
         return Fresh {
             number: 11,
-            panel: fresh(0),
+            panel: fresh_panel(0),
         };
     }
     Fresh {
         number: 0,
-        panel: fresh(own),
+        panel: fresh_panel(own),
     }
 }
 
 // Whether each number is at most the limit.
 fn each_at_most(numbers: &[u32; 64], limit: u32) -> bool
+    requires { ⌜ length (now numbers) ≡ 64 ⌝ }
     ensures { λ r. ⌜ r ≡ eachBelow (limit + 1) (now (numbers .entry)) ⌝ }
 {
     let mut i = 64;
@@ -133,7 +135,7 @@ fn broken<'a>(
     barrier: &'a [u32; 64],
     slots: &'a [u8],
 ) -> bool
-    requires { ⌜ Slots (now slots) ⌝ }
+    requires { ⌜ (length (now marks) ≡ 64) × (length (now barrier) ≡ 64) × Slots (now slots) ⌝ }
     ensures { λ r. ⌜ r ≡ isBroken (recordWith own 0 high (now (marks .entry)) (now (barrier .entry)) (now (slots .entry)) count) ⌝ }
 {
     if 63 < own {

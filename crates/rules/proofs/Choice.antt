@@ -109,7 +109,7 @@ first-sooner : {a b : Name} (i : ℕ) → (b .deadline < a .deadline) ⊎ ((b .d
 first-sooner i (inl d) = inl d
 first-sooner i (inr (d, s)) = inr (d, inl s)
 
-getD-default : (ms : List Message) (a b : Message) (i : ℕ) → i < length ms → getD ms i a ≡ getD ms i b
+pub getD-default : (ms : List Message) (a b : Message) (i : ℕ) → i < length ms → getD ms i a ≡ getD ms i b
 getD-default [] a b i lt = absurd (omega arith)
 getD-default (m ∷ ms) a b zero lt = refl
 getD-default (m ∷ ms) a b (suc i) lt = getD-default ms a b i (omega arith)

@@ -1,5 +1,5 @@
 -- Laws of the choice: the first among those looked at, and one message more. Assumes nothing.
-use Prim.Native.Nat.{ℕ, zero, suc, _+_, _≤_, _<_}
+use Prim.Native.Nat.{ℕ, suc, _+_, _≤_, _<_}
 use native.Mathlib.Omega.{arith}
 use native.Mathlib.Nat.{add-zero}
 use mathlib.Core.Path.{_≡_, refl, sym, ap, _∙_}
@@ -13,15 +13,9 @@ use borrow.Author.Tests.{le-ltb, eq-eqb, ne-eqb}
 use Rattle.frame.specs.Message.{Message, messageOf}
 use Rattle.rules.specs.Panel.{Panel, ready, met, lapsed}
 use Rattle.rules.specs.Settling.{sooner, chosen, choice}
-use Rattle.rules.proofs.Choice.{choice-some}
+use Rattle.rules.proofs.Choice.{choice-some, getD-default}
 use Rattle.settling.specs.Record.{asking, firstIn, soonerThan, considered}
 use Rattle.settling.specs.declared.First.{First}
-
--- within a list, what is read does not hang on what lies past its end
-pub getD-any : (ms : List Message) (place : ℕ) (a b : Message) → place < length ms → getD ms place a ≡ getD ms place b
-getD-any [] place a b h = absurd (omega arith)
-getD-any (m ∷ ms) zero a b h = refl
-getD-any (m ∷ ms) (suc place) a b h = getD-any ms place a b (omega arith)
 
 -- ---- whether the one found is sooner
 
@@ -78,7 +72,7 @@ firstIn-head at m ms =
 soonerThan-some : (at : ℕ) (m : Message) (ms : List Message) (later : ℕ) → later < length ms
     → soonerThan (firstIn at ms (some later)) (m .deadline) (m .source) ≡ sooner (getD ms later m) m
 unfolding sooner
-soonerThan-some at m ms later h = ap (λ (x : Message). sooner x m) (getD-any ms later (messageOf 0 0 [] []) m h)
+soonerThan-some at m ms later h = ap (λ (x : Message). sooner x m) (getD-default ms (messageOf 0 0 [] []) m later h)
 
 considered-choice : (p : Panel) (at : ℕ) (m : Message) (ms : List Message)
     → considered (ready p m) at m (firstIn (suc at) ms (choice p ms)) ≡ firstIn at (m ∷ ms) (choice p (m ∷ ms))

@@ -3,31 +3,25 @@ use Prim.Native.Nat.{ℕ, suc, _≤_, _<_}
 use native.Mathlib.Omega.{arith}
 use mathlib.Core.Path.{_≡_, sym, ap, _∙_}
 use mathlib.Core.List.{List}
-use lib.ListN.{length, getD, take, length-map, List·getD-map}
+use lib.ListN.{length, getD, take, List·getD-map}
 use lib.Seq.{length-take-le, getD-take}
 use Rattle.frame.specs.Message.{Message}
 use Rattle.frame.specs.Reading.{messageIn}
-use Rattle.frame.proofs.Passed.{reading-zero, zero-passed, length-payload}
+use Rattle.frame.proofs.Passed.{zero-passed, length-payload}
 use Rattle.rules.specs.Sizes.{width, logRecordLength}
 use Rattle.rules.specs.Panel.{Panel, ready}
 use Rattle.rules.specs.Handing.{logRecord}
 use Rattle.rules.proofs.LogRecords.{length-logRecord}
-use Rattle.slots.specs.Slots.{Reads, Listed, frameAt, messageOr, carried, held}
+use Rattle.slots.specs.Slots.{Reads, Listed, frameAt, carried, held}
+use Rattle.rules.proofs.Choice.{getD-default}
+use Rattle.slots.proofs.Held.{carried-reads, length-held}
 use Rattle.settling.specs.Record.{considered}
 use Rattle.settling.specs.declared.First.{First}
-use Rattle.settling.proofs.Choosing.{getD-any, firstFrom, firstFrom-suc}
-
-carried-reads : (bs : List ℕ) → Reads bs → carried bs ≡ messageIn width bs
-unfolding carried
-carried-reads bs r = ap messageOr (reading-zero width bs r)
-
-length-each : (slots ws : List ℕ) → length (held slots ws) ≡ length ws
-unfolding held
-length-each slots ws = length-map ws (λ slot. carried (frameAt slots slot))
+use Rattle.settling.proofs.Choosing.{firstFrom, firstFrom-suc}
 
 -- as many as are listed
-pub length-held : (slots : List ℕ) (count : ℕ) (places : List ℕ) → count ≤ length places → length (held slots (take count places)) ≡ count
-length-held slots count places h = length-each slots (take count places) ∙ length-take-le count places h
+pub length-listed : (slots : List ℕ) (count : ℕ) (places : List ℕ) → count ≤ length places → length (held slots (take count places)) ≡ count
+length-listed slots count places h = length-held slots (take count places) ∙ length-take-le count places h
 
 -- a log record has its full length
 pub length-readable : (bs : List ℕ) → Reads bs → length (logRecord (messageIn width bs)) ≡ logRecordLength
@@ -38,7 +32,7 @@ length-readable bs r =
 getD-held : (slots ws : List ℕ) (k : ℕ) (other : Message) → k < length ws → getD (held slots ws) k other ≡ carried (frameAt slots (getD ws k 0))
 unfolding held
 getD-held slots ws k other h =
-    getD-any (held slots ws) k other (carried (frameAt slots 0)) (omega (arith, length-each slots ws))
+    getD-default (held slots ws) other (carried (frameAt slots 0)) k (omega (arith, length-held slots ws))
     ∙ List·getD-map (λ slot. carried (frameAt slots slot)) ws k 0
 
 -- the message at a place of the list is that of the frame in the slot listed there
@@ -62,5 +56,5 @@ module _ (p : Panel) (slots : List ℕ) (count : ℕ) (places : List ℕ) (at : 
   firstFrom-listed listed h lt place first next e before after =
       after
       ∙ ap (considered (ready p m) at m) (before ∙ ap (firstFrom p ms) e)
-      ∙ firstFrom-suc p ms at m (omega (arith, length-held slots count places h))
+      ∙ firstFrom-suc p ms at m (omega (arith, length-listed slots count places h))
       (held-at slots count places at m listed h lt ∙ ap (messageIn width) (sym is))

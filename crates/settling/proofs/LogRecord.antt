@@ -1,9 +1,9 @@
 -- The fields of a log record: the payload as a part of its frame, and each field put into a buffer behind those before it. Assumes nothing.
 use mathlib.Core.Path.{_≡_, ap, _∙_}
 use mathlib.Core.List.{List, _++_}
-use Prim.Native.Nat.{ℕ, _+_, _-_, _*_, _≤_}
+use Prim.Native.Nat.{ℕ, _+_, _-_, _*_}
 use native.Mathlib.Omega.{arith}
-use lib.ListN.{length, take, drop, replicate, length-append, length-drop, length-replicate}
+use lib.ListN.{length, take, drop, replicate, length-append, length-drop}
 use lib.Seq.{take-all}
 use Rattle.numbers.specs.Numbers.{bigEndian}
 use Rattle.numbers.specs.Buffer.{over}
@@ -23,27 +23,25 @@ part-payload bs n e =
 abbrev head : ℕ → ℕ → ℕ → List ℕ
 head source deadline size = bigEndian 1 source ++ bigEndian 4 deadline ++ bigEndian 1 size
 
-over-head : (buffer : List ℕ) (source deadline size : ℕ) → 38 ≤ length buffer
+over-head : (buffer : List ℕ) (source deadline size : ℕ)
     → over (over (over buffer 0 (bigEndian 1 source)) 1 (bigEndian 4 deadline)) 5 (bigEndian 1 size) ≡ over buffer 0 (head source deadline size)
-over-head buffer source deadline size room =
+over-head buffer source deadline size =
     ap (λ (l : List ℕ). over l 5 (bigEndian 1 size))
-    (over-over buffer 0 (bigEndian 1 source) 1 (bigEndian 4 deadline) (simp length-bigEndian) (simp length-bigEndian (omega arith)))
-    ∙ over-over buffer 0 (bigEndian 1 source ++ bigEndian 4 deadline) 5 (bigEndian 1 size) (simp (length-append, length-bigEndian))
-    (simp length-bigEndian (omega arith))
+    (over-over buffer 0 (bigEndian 1 source) 1 (bigEndian 4 deadline) (simp length-bigEndian) (omega arith))
+    ∙ over-over buffer 0 (bigEndian 1 source ++ bigEndian 4 deadline) 5 (bigEndian 1 size) (simp (length-append, length-bigEndian)) (omega arith)
 
-pub over-logRecord : (buffer : List ℕ) (m : Message) (size : ℕ) → size ≡ length (m .payload) → size ≤ 32 → 38 ≤ length buffer
+pub over-logRecord : (buffer : List ℕ) (m : Message) (size : ℕ) → size ≡ length (m .payload)
     → over
     (over (over (over (over buffer 0 (bigEndian 1 (m .source))) 1 (bigEndian 4 (m .deadline))) 5 (bigEndian 1 size)) 6 (m .payload))
     (6 + size)
     (replicate (32 - size) 0)
     ≡ over buffer 0 (logRecord m)
 unfolding logRecord
-over-logRecord buffer m size e few room =
+over-logRecord buffer m size e =
     let front = head (m .source) (m .deadline) size in
     let six : length front ≡ 6 = simp (length-append, length-bigEndian) in
     let zeros : List ℕ = replicate (32 - size) 0 in
-    let rest : length zeros ≡ 32 - size = length-replicate {A = ℕ} (32 - size) 0 in
-    ap (λ (l : List ℕ). over (over l 6 (m .payload)) (6 + size) zeros) (over-head buffer (m .source) (m .deadline) size room)
+    ap (λ (l : List ℕ). over (over l 6 (m .payload)) (6 + size) zeros) (over-head buffer (m .source) (m .deadline) size)
     ∙ ap (λ (l : List ℕ). over l (6 + size) zeros) (over-over buffer 0 front 6 (m .payload) (omega arith) (omega arith))
     ∙ over-over buffer 0 (front ++ m .payload) (6 + size) zeros (omega (arith, length-append front (m .payload))) (omega arith)
     ∙ ap (λ (n : ℕ). over buffer 0 (head (m .source) (m .deadline) n ++ m .payload ++ replicate (32 - n) 0)) e

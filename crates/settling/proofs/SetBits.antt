@@ -2,13 +2,11 @@
 use mathlib.Core.Path.{_≡_, refl, ap, _∙_}
 use Prim.Native.Nat.{ℕ, zero, suc, _+_, _/_, _%_, _^_, _≤_, _<_}
 use native.Mathlib.Nat.{div-one, zero-add, suc-add, div-eq-of-lt, lt-of-not-le, lt-of-lt-of-le, lt-of-le-of-lt}
-use native.Mathlib.Numerals.{add-one, one-add}
+use native.Mathlib.Numerals.{add-one}
 use native.Mathlib.Omega.{arith}
 use lib.Pow.{shr-shr, shr-lt, shr-le, pow-mono}
 use lib.Count.{onesIn, trailingZeros, under}
-
-half-shift : (bits n : ℕ) → bits / 2 / 2 ^ n ≡ bits / 2 ^ suc n
-half-shift bits n = shr-shr bits 1 n ∙ ap (λ (k : ℕ). bits / 2 ^ k) (one-add n)
+use Rattle.frame.proofs.Panels.{div-half}
 
 -- ---- the lowest set bit
 
@@ -29,7 +27,7 @@ bit-trailing (suc k) bits pos fits = go (λ pos′. bit-trailing k (bits / 2) po
   where
     go : (0 < bits / 2 → bits / 2 / 2 ^ trailingZeros k (bits / 2) % 2 ≡ 1) → (b : ℕ) → bits % 2 ≡ b
         → bits / 2 ^ under b (trailingZeros k (bits / 2)) % 2 ≡ 1
-    go ih zero e = rw (← half-shift bits (trailingZeros k (bits / 2))) (ih (omega arith))
+    go ih zero e = rw (← div-half bits (trailingZeros k (bits / 2))) (ih (omega arith))
     go ih (suc b) e = rw div-one (omega arith)
 
 -- ---- the ones of a mask
@@ -42,7 +40,7 @@ onesIn-zero (suc n) = rw zero-add (onesIn-zero n)
 onesIn-add : (n more mask : ℕ) → onesIn (n + more) mask ≡ onesIn n mask + onesIn more (mask / 2 ^ n)
 unfolding onesIn
 onesIn-add zero more mask = rw (div-one, zero-add more, zero-add)
-onesIn-add (suc n) more mask = rw suc-add (omega (arith, onesIn-add n more (mask / 2), ap (onesIn more) (half-shift mask n)))
+onesIn-add (suc n) more mask = rw suc-add (omega (arith, onesIn-add n more (mask / 2), ap (onesIn more) (div-half mask n)))
 
 -- ---- the bits of a mask from panel on, of which some are set
 

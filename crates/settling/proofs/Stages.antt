@@ -5,11 +5,10 @@ use native.Mathlib.Omega.{arith}
 use mathlib.Core.Path.{_≡_, sym, ap, _∙_}
 use mathlib.Core.Bool.{true, false}
 use mathlib.Core.Option.{none, some}
-use mathlib.Core.List.{List, [], _∷_, _++_, append-assoc}
-use lib.ListN.{length, take, drop, length-append}
-use lib.Seq.{take-at, drop-append-add, drop-drop, length-take-le}
+use mathlib.Core.List.{List, [], _∷_}
+use lib.ListN.{length, take}
 use Rattle.numbers.specs.Buffer.{over}
-use Rattle.numbers.proofs.Over.{over-nil}
+use Rattle.numbers.proofs.Over.{over-nil, over-over}
 use Rattle.frame.specs.Message.{Message, messageOf}
 use Rattle.rules.specs.Sizes.{logRecordLength}
 use Rattle.rules.specs.Panel.{Panel}
@@ -22,7 +21,7 @@ use Rattle.settling.specs.Record.{asking, firstIn, oneHanded, Stage, sta
 use Rattle.settling.specs.declared.Settling.{Settling}
 use Rattle.settling.specs.declared.First.{First}
 use Rattle.settling.proofs.Choosing.{firstIn-none, firstIn-some}
-use Rattle.settling.proofs.Holding.{length-held, held-at, length-readable}
+use Rattle.settling.proofs.Holding.{length-listed, held-at, length-readable}
 use Rattle.settling.proofs.Leaving.{take-leaves, listed-leaves, held-without}
 
 -- ---- one is handed
@@ -56,21 +55,6 @@ module _ (slots : List ℕ) (place : ℕ) (s rest : Settling) (marks barrier out
   handed-at after marksAfter barrierAfter outputAfter e em eb eo = rw (e, em, eb, eo) handed-one
 
 -- ---- a step of settling
-
--- put one behind the other, wherever the second ends
-over-behind : (buffer : List ℕ) (at : ℕ) (xs : List ℕ) (behind : ℕ) (ys : List ℕ) → behind ≡ at + length xs → at ≤ length buffer
-    → over (over buffer at xs) behind ys ≡ over buffer at (xs ++ ys)
-unfolding over
-over-behind buffer at xs behind ys e h =
-    let front : length (take at buffer ++ xs) ≡ behind = simp length-append (omega (arith, length-take-le at buffer h)) in
-    let t : take behind (over buffer at xs) ≡ take at buffer ++ xs = take-at (take at buffer ++ xs) (drop (at + length xs) buffer) behind front in
-    let q : at + length xs + length ys ≡ at + length (xs ++ ys) = omega (arith, length-append xs ys) in
-    let d : drop (behind + length ys) (over buffer at xs) ≡ drop (at + length (xs ++ ys)) buffer =
-    ap (λ (k : ℕ). drop (k + length ys) (over buffer at xs)) (sym front)
-    ∙ drop-append-add (take at buffer ++ xs) (drop (at + length xs) buffer) (length ys)
-    ∙ drop-drop (length ys) (at + length xs) buffer
-    ∙ ap (λ (k : ℕ). drop k buffer) q in
-    rw (t, d, append-assoc (take at buffer) xs ys)
 
 module _ (slots : List ℕ) (s : Stage) where
   settles-end : Listed slots (s .left .waiting) (s .left .places) → choice (panelAt slots s) (panelAt slots s .waiting) ≡ none → Settles slots s s
@@ -106,7 +90,7 @@ module _ (slots : List ℕ) (s : Stage) where
         output =
             rest .output
             ∙ ap (λ (l : List ℕ). over l (outputPlace (t .left)) bs) (h .output)
-            ∙ over-behind (s .output) at (logRecord m) (outputPlace (t .left)) bs (omega (arith, h .handed, size)) room
+            ∙ over-over (s .output) at (logRecord m) (outputPlace (t .left)) bs (omega (arith, h .handed, size)) room
             ∙ ap (λ (x : Settled). over (s .output) at (logRecords (x .handed))) (sym all);
         handed = omega (arith, rest .handed, h .handed, count);
         listed = rest .listed;
@@ -126,7 +110,7 @@ module _ (slots : List ℕ) (s : Stage) (listed : Listed slots (s .left .waiting
   found-below e =
       let p = panelAt slots s in
       let chosen = firstIn-some p (p .waiting) first is e in
-      omega (arith, choice-some p (p .waiting) (waitingAt p 0) (first .place) chosen .0, length-held slots (s .left .waiting) (s .left .places) few)
+      omega (arith, choice-some p (p .waiting) (waitingAt p 0) (first .place) chosen .0, length-listed slots (s .left .waiting) (s .left .places) few)
 
   length-found : first .found ≡ true → length (logRecord (waitingAt (panelAt slots s) (first .place))) ≡ logRecordLength
   length-found e =

@@ -1,6 +1,6 @@
 -- The slots of the messages that have not lapsed, as a loop over the slots collects them. Assumes nothing.
 use mathlib.Core.Path.{_≡_, refl, sym, ap, _∙_}
-use mathlib.Core.Bool.{Bool, true, false, cond}
+use mathlib.Core.Bool.{cond}
 use mathlib.Core.List.{List, [], _∷_, _++_, append-nil, append-assoc}
 use mathlib.Core.Logic.{⊎-elim}
 use Prim.Native.Nat.{ℕ, suc, _+_, _≤_, _<_}
@@ -8,7 +8,6 @@ use native.Mathlib.Nat.{eq-or-lt-of-le}
 use native.Mathlib.Omega.{arith}
 use borrow.Author.Tests.{lt-ltb, le-ltb}
 use lib.ListN.{length, getD, take, set}
-use lib.Dec.{ltb}
 use lib.Seq.{take-suc-set, getD-set-same, getD-set-other}
 use Rattle.frame.specs.Message.{Message}
 use Rattle.frame.specs.Reading.{messageIn}

@@ -11,7 +11,6 @@ use Rattle.numbers.specs.Numbers.{numberAt}
 use Rattle.numbers.specs.Buffer.{over}
 use Rattle.numbers.proofs.NumberAt.{numberAt-drop}
 use Rattle.numbers.proofs.Over.{length-over}
-use Rattle.rules.specs.Sizes.{bufferLength}
 use Rattle.slots.specs.Slots.{slotLength, Slots, Reads, Listed, frameAt}
 use Rattle.slots.proofs.Framed.{lengthAt, reads-lengthAt, numberAt-take}
 use Rattle.slots.proofs.Writing.{frameAt-before, frameAt-behind, frameAt-here, framed-slot}

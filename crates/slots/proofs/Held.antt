@@ -1,21 +1,20 @@
 -- Laws of `held` and `between`: the messages in slots, as loops over the slots meet them. Assumes nothing.
 use mathlib.Core.Path.{_≡_, refl, sym, ap, _∙_}
-use mathlib.Core.Bool.{Bool, true, false, _&&_, cond}
-use mathlib.Core.List.{List, [], _∷_, _++_, append-nil}
+use mathlib.Core.Bool.{true, false}
+use mathlib.Core.List.{List, [], _∷_, _++_}
 use Prim.Native.Nat.{ℕ, zero, suc, _+_, _-_, _≤_, _<_}
 use native.Mathlib.Nat.{add-zero, sub-zero}
 use native.Mathlib.Omega.{arith}
 use lib.ListN.{length, getD, take, set}
 use lib.Seq.{take-suc-set}
-use lib.Dec.{ltb}
 use Rattle.numbers.specs.Numbers.{Bytes}
 use Rattle.frame.specs.Message.{Message, messageOf}
-use Rattle.frame.specs.Reading.{messageIn, refusal}
+use Rattle.frame.specs.Reading.{messageIn}
 use Rattle.frame.specs.Readable.{readable}
 use Rattle.frame.proofs.Readable.{readable-true, readable-deadline}
 use Rattle.frame.proofs.Passed.{zero-passed, reading-zero, reading-refused, passed-readable}
 use Rattle.rules.specs.Sizes.{width}
-use Rattle.slots.specs.Slots.{Reads, Kept, frameAt, carried, held, upFrom, firstSlots}
+use Rattle.slots.specs.Slots.{Reads, frameAt, carried, held, upFrom, firstSlots}
 
 -- ---- the message that a frame carries
 

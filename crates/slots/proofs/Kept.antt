@@ -16,7 +16,6 @@ use Rattle.numbers.proofs.NumberAt.{numberAt-bigEndian}
 use Rattle.numbers.proofs.Over.{length-over}
 use Rattle.frame.specs.Readable.{readable}
 use Rattle.frame.specs.Reading.{refusal}
-use Rattle.frame.specs.Message.{Message}
 use Rattle.frame.proofs.Conjunction.{and-both}
 use Rattle.rules.specs.Sizes.{width, bufferLength}
 use Rattle.rules.specs.Refusals.{eachReadable}

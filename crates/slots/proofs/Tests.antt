@@ -1,16 +1,15 @@
 -- Laws of the tests on waiting messages, as a loop over the slots makes them. Assumes nothing.
-use mathlib.Core.Path.{_≡_, refl, ap, _∙_}
+use mathlib.Core.Path.{_≡_}
 use mathlib.Core.Bool.{true, false, _&&_, _||_}
-use mathlib.Core.List.{List, [], _++_}
+use mathlib.Core.List.{List}
 use Prim.Native.Nat.{ℕ, suc, _≤_, _<_}
 use lib.Dec.{eqb}
 use Rattle.numbers.specs.Numbers.{Bytes}
-use Rattle.numbers.proofs.Bytes.{Bytes-drop, Bytes-take}
 use Rattle.frame.specs.Message.{Message}
 use Rattle.frame.specs.Reading.{messageIn}
 use Rattle.rules.specs.Sizes.{width}
 use Rattle.rules.specs.Refusals.{eachReadable, isWaiting}
-use Rattle.slots.specs.Slots.{Reads, frameAt, carried, held}
+use Rattle.slots.specs.Slots.{Reads, frameAt, held}
 use Rattle.slots.proofs.Held.{between, carried-reads, readable-carried, unreadable-carried, held-step, held-none}
 
 module _ (slots : List ℕ) (slot count : ℕ) where

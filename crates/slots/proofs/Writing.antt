@@ -1,10 +1,10 @@
 -- Laws of slots into which bytes were put: the frame there, and those before and behind. Assumes nothing.
-use mathlib.Core.Path.{_≡_, refl, sym, ap, _∙_}
+use mathlib.Core.Path.{_≡_, sym, ap, _∙_}
 use mathlib.Core.List.{List, _++_}
 use Prim.Native.Nat.{ℕ, _+_, _-_, _*_, _≤_, _<_}
 use native.Mathlib.Omega.{arith}
-use lib.ListN.{length, getD, take, drop, length-append, length-take, length-drop}
-use lib.Seq.{paste, getD-drop, drop-drop, drop-at, drop-paste, take-add, take-all, take-take, take-append-le, drop-append-le, drop-append-add, length-take-le}
+use lib.ListN.{length, getD, take, drop, length-append, length-drop}
+use lib.Seq.{paste, getD-drop, drop-drop, drop-at, drop-paste, take-all, take-take, take-append-le, drop-append-le, drop-append-add, length-take-le}
 use Rattle.numbers.specs.Numbers.{bigEndian, numberAt}
 use Rattle.numbers.specs.Buffer.{over}
 use Rattle.numbers.proofs.BigEndian.{length-bigEndian}

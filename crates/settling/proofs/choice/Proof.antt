@@ -6,7 +6,7 @@ use lib.ListN.{length, take}
 use Rattle.slots.specs.Slots.{held}
 use Rattle.settling.specs.Record.{asking}
 use Rattle.settling.proofs.Choosing.{firstFrom, firstFrom-end}
-use Rattle.settling.proofs.Holding.{length-held, firstFrom-listed}
+use Rattle.settling.proofs.Holding.{length-listed, firstFrom-listed}
 use Rattle.settling.proofs.choice.Statement.{statement}
 use Rattle.settling.proofs.choice.Tie as tie
 
@@ -24,7 +24,7 @@ loop-holds : tie.Need-loop-holds Inv-loop μ-loop
 loop-holds c =
     let a = c .before .args in
     let ms = held (a .slots .now) (take (a .waiting) (a .places .now)) in
-    let count : length ms ≡ a .waiting = length-held (a .slots .now) (a .waiting) (a .places .now) (fits (c .before)) in
+    let count : length ms ≡ a .waiting = length-listed (a .slots .now) (a .waiting) (a .places .now) (fits (c .before)) in
     (omega arith, sym (firstFrom-end (asking (a .marks .now) (a .time)) ms (a .waiting) (omega (arith, count))))
 
 sub-place : tie.Need-sub-place Inv-loop μ-loop

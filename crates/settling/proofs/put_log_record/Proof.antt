@@ -130,7 +130,7 @@ returns c =
       put1 .before .source .ensures,
       part mask,
     )
-    (over-logRecord (now (s .args .part)) (messageIn 4 (bytes mask)) (length (bytes mask) - start mask) (sized mask) (fits mask) (s .pre .0))
+    (over-logRecord (now (s .args .part)) (messageIn 4 (bytes mask)) (length (bytes mask) - start mask) (sized mask))
 
 pub put-log-record-spec : {M : Type 1} → statement M
 put-log-record-spec =

@@ -5,7 +5,6 @@ use mathlib.Core.Logic.{⊎-elim}
 use native.Mathlib.Numerals.{add-one}
 use native.Mathlib.Omega.{arith}
 use lib.ListN.{length, length-set}
-use Rattle.slots.specs.Slots.{held, firstSlots}
 use Rattle.slots.proofs.Collecting.{Chosen, chosen-none, chosen-lapsed, chosen-alive, chosen-all}
 use Rattle.slots.proofs.alive.Statement.{statement}
 use Rattle.slots.proofs.alive.Tie as tie

@@ -5,7 +5,7 @@ use mathlib.Core.List.{List}
 use Prim.Native.Nat.{ℕ, suc, _-_}
 use native.Mathlib.Numerals.{add-one}
 use native.Mathlib.Omega.{arith}
-use Rattle.frame.specs.Reading.{messageIn, refusal}
+use Rattle.frame.specs.Reading.{messageIn}
 use Rattle.rules.specs.Refusals.{isWaiting}
 use Rattle.slots.specs.Slots.{held, firstSlots}
 use Rattle.slots.proofs.Held.{between, between-all}

@@ -34,7 +34,7 @@ returns c =
     let one = length-bigEndian 1 (length (now (a .payload))) in
     c .before .before .put-bytes .ensures
     ∙ ap (λ (l : List ℕ). over l (a .at + 1) (now (a .payload))) (number .put-number .ensures)
-    ∙ over-over (now (a .buffer)) (a .at) size (a .at + 1) (now (a .payload)) (omega arith) (start .pre .1)
+    ∙ over-over (now (a .buffer)) (a .at) size (a .at + 1) (now (a .payload)) (omega arith) (omega (arith, start .pre .1))
 
 pub put-payload-spec : {M : Type 1} → statement M
 put-payload-spec = tie.close (tie.spec put-number-requires add-put-bytes put-bytes-requires same-length returns)

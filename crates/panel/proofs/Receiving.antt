@@ -1,0 +1,83 @@
+-- A frame that is not turned down: document 01's receive. Assumes nothing.
+use mathlib.Core.Path.{_≡_, refl, sym, ap, _∙_}
+use mathlib.Core.Bool.{Bool, true, false, cond}
+use mathlib.Core.List.{List, [], _∷_, _++_}
+use mathlib.Core.Logic.{_⊎_, inl, inr, ⊎-elim}
+use Prim.Native.Nat.{ℕ, _*_, _<_}
+use native.Mathlib.Nat.{zero-add}
+use native.Mathlib.Omega.{arith}
+use lib.ListN.{length, length-append}
+use Rattle.numbers.proofs.Over.{over-nil}
+use Rattle.frame.specs.Message.{Message}
+use Rattle.frame.specs.Refusal.{firstOf}
+use Rattle.frame.specs.Reading.{messageIn}
+use Rattle.rules.specs.Sizes.{width, logRecordLength}
+use Rattle.rules.specs.Panel.{Panel as Record, ready}
+use Rattle.rules.specs.Handing.{hand, logRecord, logRecords}
+use Rattle.rules.specs.Settling.{Settled, settle, withWaiting, handThen}
+use Rattle.rules.specs.Calls.{handAndSettle, receiving}
+use Rattle.rules.specs.Refusals.{broken, receiveChecks}
+use Rattle.rules.specs.Results.{Promised, receive}
+use Rattle.rules.proofs.Checks.{receive-passed}
+use Rattle.slots.specs.Slots.{Reads, Kept, held, firstSlots}
+use Rattle.slots.proofs.Held.{length-firstSlots}
+use Rattle.slots.proofs.Kept.{held-order}
+use Rattle.settling.specs.Record.{Stage, stage, panelAt, Settles}
+use Rattle.settling.proofs.Holding.{length-readable}
+use Rattle.panel.specs.Record.{recordOf, receivedResult, GivenBack, started, taking, handedAtOnce, Taken}
+use Rattle.panel.specs.declared.Panel.{Panel}
+use Rattle.panel.proofs.Answering.{afterwards, settled-promised}
+
+-- the record as it begins to settle, with what is lent beside the slots
+abbrev pub startedStage : Panel → List ℕ → List ℕ → Stage
+startedStage p barrier output = stage (started (p .own) (p .time) (p .high) (p .count)) (p .marks) barrier output
+
+pub panel-started : (p : Panel) (output : List ℕ) → Kept (p .slots) (p .count) → panelAt (p .slots) (startedStage p (p .barrier) output) ≡ recordOf p
+panel-started p output kept = ap (λ (ms : List Message). withWaiting (recordOf p) ms) (held-order (p .slots) (p .count) (kept .few))
+
+-- to receive is to take the message and to settle
+receiving-taking : (p : Record) (m : Message) → receiving p m ≡ afterwards (handedAtOnce p m) (settle (taking p m))
+unfolding receiving handAndSettle
+receiving-taking p m = go (ready p m)
+  where
+    go : (b : Bool) → cond b (handThen settle p m) (settle (withWaiting p (p .waiting ++ (m ∷ []))))
+        ≡ afterwards (cond b (m ∷ []) []) (settle (cond b (hand p m) (withWaiting p (p .waiting ++ (m ∷ [])))))
+    go true = refl
+    go false = refl
+
+-- the log record of a message that was handed at once, or none
+length-atOnce : (p : Record) (bytes : List ℕ) → Reads bytes
+    → length (logRecords (handedAtOnce p (messageIn width bytes))) ≡ length (handedAtOnce p (messageIn width bytes)) * logRecordLength
+unfolding logRecords
+length-atOnce p bytes reads = go (ready p (messageIn width bytes))
+  where
+    go : (b : Bool) → length (logRecords (cond b (messageIn width bytes ∷ []) [])) ≡ length {A = Message} (cond b (messageIn width bytes ∷ []) []) * logRecordLength
+    go true = length-append (logRecord (messageIn width bytes)) [] ∙ omega (arith, length-readable bytes reads)
+    go false = refl
+
+-- 32 are not waiting, or the message is ready
+pub room : (p : Panel) (bytes output : List ℕ) → firstOf (receiveChecks (recordOf p) bytes output) ≡ 0
+    → (p .count < 32) ⊎ (ready (recordOf p) (messageIn width bytes) ≡ true)
+room p bytes output passed =
+    ⊎-elim (λ (l : length (held (p .slots) (firstSlots (p .count))) < 32). inl (omega (arith, length-firstSlots (p .slots) (p .count)))) (λ r. inr r)
+    (receive-passed (recordOf p) bytes output passed .room)
+
+module _ (p : Panel) (bytes output : List ℕ) (kept : Kept (p .slots) (p .count)) (reads : Reads bytes) (slots : List ℕ) (begun after : Stage)
+    (taken : Taken (messageIn width bytes) (p .slots) (startedStage p (p .barrier) output) slots begun) (settles : Settles slots begun after) where
+  pub received-done : (back : Panel) → firstOf (receiveChecks (recordOf p) bytes output) ≡ 0 → recordOf back ≡ panelAt slots after
+      → Promised (recordOf p) (receive bytes output) (receivedResult (record { number = 0; count = after .left .handed; panel = back }) (after .output))
+      × GivenBack 0 p back
+  received-done back passed e =
+      let m = messageIn width bytes in
+      let same = panel-started p output kept in (
+        settled-promised (recordOf p) (receive bytes output) passed slots (handedAtOnce (recordOf p) m) begun after settles
+            (receiving-taking (recordOf p) m ∙ ap (λ (r : Record). afterwards (handedAtOnce (recordOf p) m) (settle r)) (sym (taken .panel ∙ ap (λ (r : Record). taking r m) same)))
+            (rw same at (taken .output))
+            (rw same at (taken .handed) ∙ zero-add (length (handedAtOnce (recordOf p) m)))
+            (length-atOnce (recordOf p) bytes reads)
+            (recordOf back)
+            []
+            e
+            (sym (over-nil [] 0)),
+        λ refuses. absurd (refuses refl),
+      )

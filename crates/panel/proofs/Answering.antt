@@ -1,11 +1,10 @@
 -- The answers of the calls: turned down, or done. Assumes nothing.
-use mathlib.Core.Path.{_≡_, refl, sym, ap, _∙_, subst}
+use mathlib.Core.Path.{_≡_, refl, sym, ap, _∙_}
 use mathlib.Core.Bool.{false}
 use mathlib.Core.List.{List, [], _∷_, _++_, append-assoc}
-use Prim.Native.Nat.{ℕ, _+_, _*_, _≤_, _<_}
-use native.Mathlib.Nat.{zero-mul}
+use Prim.Native.Nat.{ℕ, _+_, _*_}
 use native.Mathlib.Omega.{arith}
-use lib.ListN.{length, take, length-append}
+use lib.ListN.{length, length-append}
 use Rattle.numbers.specs.Buffer.{over}
 use Rattle.numbers.proofs.Over.{over-over}
 use Rattle.frame.specs.Message.{Message}
@@ -15,8 +14,8 @@ use Rattle.rules.specs.Panel.{Panel as Record}
 use Rattle.rules.specs.Handing.{logRecords}
 use Rattle.rules.specs.Settling.{Settled, settle}
 use Rattle.rules.specs.Refusals.{broken}
-use Rattle.rules.specs.Results.{Call, Result, checksOf, effectOf, frameOf, outputOf, bufferOf, refused, done, unless, defined, Promised, send, receive, clock}
-use Rattle.rules.proofs.Checks.{Valid, broken-false, true-eachReadable}
+use Rattle.rules.specs.Results.{Call, checksOf, effectOf, frameOf, outputOf, bufferOf, refused, done, unless, defined, Promised, send, receive, clock}
+use Rattle.rules.proofs.Checks.{broken-false, true-eachReadable}
 use Rattle.rules.proofs.Results.{defined-number}
 use Rattle.rules.proofs.Theorems.{refusal-unchanged}
 use Rattle.slots.specs.Slots.{Kept, held, firstSlots}

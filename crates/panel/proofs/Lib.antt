@@ -6,3 +6,4 @@ pub mod Taking
 pub mod Answering
 pub mod Clocking
 pub mod Receiving
+pub mod Sending

@@ -14,9 +14,9 @@ use Rattle.frame.specs.Reading.{messageIn}
 use Rattle.rules.specs.Sizes.{width, logRecordLength}
 use Rattle.rules.specs.Panel.{Panel as Record, ready}
 use Rattle.rules.specs.Handing.{hand, logRecord, logRecords}
-use Rattle.rules.specs.Settling.{Settled, settle, withWaiting, handThen}
+use Rattle.rules.specs.Settling.{settle, withWaiting, handThen}
 use Rattle.rules.specs.Calls.{handAndSettle, receiving}
-use Rattle.rules.specs.Refusals.{broken, receiveChecks}
+use Rattle.rules.specs.Refusals.{receiveChecks}
 use Rattle.rules.specs.Results.{Promised, receive}
 use Rattle.rules.proofs.Checks.{receive-passed}
 use Rattle.slots.specs.Slots.{Reads, Kept, held, firstSlots}

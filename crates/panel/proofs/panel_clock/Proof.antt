@@ -1,5 +1,5 @@
 -- `panel::panel_clock` meets its contract: each refusal is the first check that applies, and the rest is document 01's clock. Assumes nothing.
-use mathlib.Core.Path.{_≡_, refl, sym, _∙_}
+use mathlib.Core.Path.{_≡_, sym, _∙_}
 use mathlib.Core.Bool.{false}
 use native.Mathlib.Omega.{arith}
 use borrow.Author.Needs.{needs}

@@ -1,0 +1,97 @@
+-- A send that is not turned down: document 01's send. Assumes nothing.
+use mathlib.Core.Path.{_≡_, refl, sym, ap, _∙_}
+use mathlib.Core.List.{List, [], _∷_, append-nil}
+use Prim.Native.Nat.{ℕ, _≤_}
+use native.Mathlib.Omega.{arith}
+use lib.ListN.{length, length-append}
+use Rattle.numbers.specs.Numbers.{Bytes}
+use Rattle.numbers.specs.Buffer.{over}
+use Rattle.frame.specs.Message.{Message}
+use Rattle.frame.specs.Frame.{frame}
+use Rattle.frame.specs.Refusal.{firstOf}
+use Rattle.frame.specs.Reading.{messageIn}
+use Rattle.frame.specs.Written.{written, writtenLength}
+use Rattle.frame.proofs.Readable.{Readable, readable-true}
+use Rattle.frame.proofs.Passed.{passed-zero}
+use Rattle.frame.proofs.Places.{frame-passed, frame-message}
+use Rattle.frame.proofs.Written.{written-frame}
+use Rattle.frame.proofs.Theorems.{frame-size}
+use Rattle.rules.specs.Sizes.{width}
+use Rattle.rules.specs.Panel.{Panel as Record, none64}
+use Rattle.rules.specs.Handing.{raise, hand, logRecord, logRecords}
+use Rattle.rules.specs.Settling.{settle, withWaiting}
+use Rattle.rules.specs.Calls.{newMessage, emptied, handAndSettle, sending}
+use Rattle.rules.specs.Refusals.{sendChecks}
+use Rattle.rules.specs.Results.{Promised, send}
+use Rattle.rules.proofs.Checks.{send-passed, new-readable}
+use Rattle.rules.proofs.LogRecords.{length-logRecord}
+use Rattle.slots.specs.Slots.{Reads, Kept}
+use Rattle.slots.proofs.Kept.{held-order}
+use Rattle.settling.specs.declared.Settling.{Settling}
+use Rattle.settling.specs.Record.{oneHanded, Stage, stage, panelAt, outputPlace, Settles}
+use Rattle.panel.specs.Record.{recordOf, sentResult, GivenBack, started}
+use Rattle.panel.specs.declared.Panel.{Panel}
+use Rattle.panel.proofs.Answering.{afterwards, settled-promised}
+
+module _ (p : Panel) (payload : List ℕ) (lifetime : ℕ) (output buffer : List ℕ) (bytes : Bytes payload) (panels : length (p .barrier) ≡ 64)
+    (passed : firstOf (sendChecks (recordOf p) payload lifetime output buffer) ≡ 0) where
+  -- the message that is sent
+  abbrev pub new : Message
+  new = newMessage (recordOf p) payload lifetime
+
+  readable : Readable width new
+  readable = new-readable (recordOf p) payload lifetime output buffer (send-passed (recordOf p) payload lifetime output buffer passed) panels bytes
+
+  pub frame-fits : length (frame width new) ≤ length buffer
+  frame-fits =
+      let P = send-passed (recordOf p) payload lifetime output buffer passed in
+      omega (arith, P .buffer-room, frame-size new (readable-true width new readable) .1)
+
+  -- ---- its frame is written
+
+  pub length-written : writtenLength width new buffer ≡ length (frame width new)
+  length-written = sym (written-frame width new buffer (readable-true width new readable) frame-fits .0)
+
+  pub buffer-written : written width new buffer ≡ over buffer 0 (frame width new)
+  buffer-written = sym (written-frame width new buffer (readable-true width new readable) frame-fits .1)
+
+  pub frame-reads : Reads (frame width new)
+  frame-reads = passed-zero width (frame width new) (frame-passed width new (omega arith, omega arith) readable)
+
+  -- ---- it is handed with an empty barrier, and the record settles
+
+  abbrev pub handedStage : Stage
+  handedStage =
+      stage (oneHanded (started (p .own) (p .time) (p .high) (p .count)) new) (raise (p .marks) new) (raise none64 new) (over output 0 (logRecord new))
+
+  pub stage-handed : (part : List ℕ) → part ≡ frame width new → (begun after : Settling) (marks barrier written : List ℕ)
+      → begun ≡ started (p .own) (p .time) (p .high) (p .count) → after ≡ oneHanded begun (messageIn width part)
+      → marks ≡ raise (p .marks) (messageIn width part) → barrier ≡ raise none64 (messageIn width part)
+      → written ≡ over output (outputPlace begun) (logRecord (messageIn width part)) → stage after marks barrier written ≡ handedStage
+  stage-handed part is begun after marks barrier written b e em eb eo =
+      let message : messageIn width part ≡ new = ap (messageIn width) is ∙ frame-message width new (omega arith, omega arith) readable in
+      rw (e, em, eb, eo, message, b)
+
+  panel-handed : Kept (p .slots) (p .count) → panelAt (p .slots) handedStage ≡ hand (emptied (recordOf p)) new
+  unfolding hand
+  panel-handed kept = ap (λ (ms : List Message). withWaiting (hand (emptied (recordOf p)) new) ms) (held-order (p .slots) (p .count) (kept .few))
+
+  pub sent-done : Kept (p .slots) (p .count) → (after : Stage) (back : Panel) → Settles (p .slots) handedStage after
+      → recordOf back ≡ panelAt (p .slots) after
+      → Promised (recordOf p) (send payload lifetime output buffer)
+      (sentResult (record { number = 0; count = after .left .handed; length = length (frame width new); panel = back }) (after .output) (over buffer 0 (frame width new)))
+      × GivenBack 0 p back
+  unfolding sending handAndSettle logRecords
+  sent-done kept after back settles e =
+      let one = ap (over output 0) (sym (append-nil (logRecord new))) in (
+        settled-promised (recordOf p) (send payload lifetime output buffer) passed (p .slots) (new ∷ []) handedStage after settles
+            (ap (λ (r : Record). afterwards (new ∷ []) (settle r)) (sym (panel-handed kept)))
+            one
+            refl
+            (length-append (logRecord new) [] ∙ omega (arith, length-logRecord new (readable .payload)))
+            (recordOf back)
+            (over buffer 0 (frame width new))
+            e
+            refl,
+        λ refuses. absurd (refuses refl),
+      )

@@ -1,8 +1,7 @@
 -- The answers of the calls: turned down, or done. Assumes nothing.
 use mathlib.Core.Path.{_≡_, refl, sym, ap, _∙_}
-use mathlib.Core.Bool.{false}
 use mathlib.Core.List.{List, [], _∷_, _++_, append-assoc}
-use Prim.Native.Nat.{ℕ, _+_, _*_}
+use Prim.Native.Nat.{ℕ, _+_, _*_, _≤_}
 use native.Mathlib.Omega.{arith}
 use lib.ListN.{length, length-append}
 use Rattle.numbers.specs.Buffer.{over}
@@ -12,60 +11,42 @@ use Rattle.frame.specs.Refusal.{firstOf}
 use Rattle.rules.specs.Sizes.{logRecordLength}
 use Rattle.rules.specs.Panel.{Panel as Record}
 use Rattle.rules.specs.Handing.{logRecords}
-use Rattle.rules.specs.Settling.{Settled, settle}
-use Rattle.rules.specs.Refusals.{broken}
-use Rattle.rules.specs.Results.{Call, checksOf, effectOf, frameOf, outputOf, bufferOf, refused, done, unless, defined, Promised, send, receive, clock}
-use Rattle.rules.proofs.Checks.{broken-false, true-eachReadable}
+use Rattle.rules.specs.Settling.{Settled, settle, withWaiting}
+use Rattle.rules.specs.Results.{Call, checksOf, effectOf, frameOf, outputOf, bufferOf, refused, done, unless, defined, Promised}
+use Rattle.rules.proofs.Checks.{Valid, true-eachReadable}
 use Rattle.rules.proofs.Results.{defined-number}
 use Rattle.rules.proofs.Theorems.{refusal-unchanged}
 use Rattle.slots.specs.Slots.{Kept, held, firstSlots}
 use Rattle.slots.proofs.Held.{length-firstSlots}
-use Rattle.slots.proofs.Kept.{kept-readable}
-use Rattle.settling.specs.Record.{Stage, panelAt, outputPlace, Settles}
-use Rattle.panel.specs.Record.{recordOf, sentResult, receivedResult, clockedResult, sentNothing, receivedNothing, clockedNothing, GivenBack}
+use Rattle.slots.specs.Moves.{Gathered}
+use Rattle.slots.proofs.Kept.{kept-readable, held-gathered}
+use Rattle.settling.specs.Record.{Stage, stage, panelAt, outputPlace, Settles}
+use Rattle.settling.specs.declared.Settling.{Settling}
+use Rattle.panel.specs.Record.{recordWith, recordOf}
 use Rattle.panel.specs.declared.Panel.{Panel}
-use Rattle.panel.specs.declared.Sent.{Sent}
-use Rattle.panel.specs.declared.Received.{Received}
-use Rattle.panel.specs.declared.Clocked.{Clocked}
 
 -- ---- turned down
 
-refused-defined : (p : Record) (call : Call) (number : ℕ) → number ≡ firstOf (checksOf p call) → (number ≡ 0 → ⊥)
-    → refused p (outputOf call) (bufferOf call) number ≡ defined p call
-refused-defined p call number e refuses =
+pub refused-promised : (p : Record) (call : Call) (number : ℕ) → number ≡ firstOf (checksOf p call) → (number ≡ 0 → ⊥)
+    → Promised p call (refused p (outputOf call) (bufferOf call) number)
+refused-promised p call number e refuses =
     let same : number ≡ defined p call .number = e ∙ sym (defined-number p call) in
     ap (refused p (outputOf call) (bufferOf call)) same ∙ sym (refusal-unchanged p call (λ z. refuses (same ∙ z)))
-
-module _ (p : Panel) (number : ℕ) (refuses : number ≡ 0 → ⊥) where
-  pub sent-refused : (answer : Sent) (payload : List ℕ) (lifetime : ℕ) (output buffer : List ℕ) → answer ≡ sentNothing number p
-      → number ≡ firstOf (checksOf (recordOf p) (send payload lifetime output buffer))
-      → Promised (recordOf p) (send payload lifetime output buffer) (sentResult answer output buffer) × GivenBack (answer .number) p (answer .panel)
-  unfolding refused
-  sent-refused answer payload lifetime output buffer e first =
-      rw e (refused-defined (recordOf p) (send payload lifetime output buffer) number first refuses, λ _. refl)
-
-  pub received-refused : (answer : Received) (bytes output : List ℕ) → answer ≡ receivedNothing number p
-      → number ≡ firstOf (checksOf (recordOf p) (receive bytes output))
-      → Promised (recordOf p) (receive bytes output) (receivedResult answer output) × GivenBack (answer .number) p (answer .panel)
-  unfolding refused
-  received-refused answer bytes output e first =
-      rw e (refused-defined (recordOf p) (receive bytes output) number first refuses, λ _. refl)
-
-  pub clocked-refused : (answer : Clocked) (time : ℕ) (output : List ℕ) → answer ≡ clockedNothing number p
-      → number ≡ firstOf (checksOf (recordOf p) (clock time output))
-      → Promised (recordOf p) (clock time output) (clockedResult answer output) × GivenBack (answer .number) p (answer .panel)
-  unfolding refused
-  clocked-refused answer time output e first =
-      rw e (refused-defined (recordOf p) (clock time output) number first refuses, λ _. refl)
 
 -- ---- done
 
 -- a record that 26 lets through has readable frames in its first slots
-pub kept : (p : Panel) → broken (recordOf p) ≡ false → Kept (p .slots) (p .count)
-kept p b =
-    let valid = broken-false (recordOf p) b in
+pub valid-kept : (p : Panel) → Valid (recordOf p) → Kept (p .slots) (p .count)
+valid-kept p valid =
     kept-readable (p .slots) (p .count) (omega (arith, valid .count, length-firstSlots (p .slots) (p .count)))
     (true-eachReadable (held (p .slots) (firstSlots (p .count))) (valid .waiting))
+
+-- the record given back: the frames in the slots listed have moved up to the first slots
+pub gathered-record : (slots : List ℕ) (s : Settling) (marks barrier output after : List ℕ) → s .waiting ≤ length (s .places)
+    → Gathered slots (s .places) (s .waiting) after
+    → recordWith (s .own) (s .time) (s .high) marks barrier after (s .waiting) ≡ panelAt slots (stage s marks barrier output)
+gathered-record slots s marks barrier output after room gathered =
+    ap (λ (ms : List Message). withWaiting (panelAt slots (stage s marks barrier output)) ms) (held-gathered slots (s .places) (s .waiting) after room gathered)
 
 logRecords-append : (ms more : List Message) → logRecords (ms ++ more) ≡ logRecords ms ++ logRecords more
 unfolding logRecords

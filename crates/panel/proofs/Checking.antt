@@ -1,102 +1,59 @@
--- The number of the first check of a call that applies, as the code goes through the checks. Assumes nothing.
-use mathlib.Core.Path.{_≡_, refl, sym, _∙_}
-use mathlib.Core.Bool.{true, false}
-use mathlib.Core.List.{List, _++_}
-use Prim.Native.Nat.{ℕ, _≤_, _<_}
-use borrow.Author.Tests.{lt-ltb, le-ltb}
+-- The checks of each call, on what they ask for. Assumes nothing.
+use mathlib.Core.Path.{_≡_, refl, sym, ap, _∙_}
+use mathlib.Core.List.{List, [], _∷_, _++_}
+use Prim.Native.Nat.{ℕ}
 use lib.ListN.{length}
+use lib.Dec.{ltb}
 use Rattle.frame.specs.Refusal.{firstOf}
-use Rattle.frame.specs.Reading.{checks, refusal, messageIn}
-use Rattle.frame.proofs.FirstOf.{eachNumber, firstOf-left, firstOf-right}
-use Rattle.rules.specs.Sizes.{width, lastDeadline, outputLength, bufferLength}
+use Rattle.frame.specs.Reading.{checks, messageIn}
+use Rattle.frame.proofs.FirstOf.{eachNumber, applies-none, firstOf-append, firstOf-left, firstOf-right}
+use Rattle.rules.specs.Sizes.{width, outputLength}
 use Rattle.rules.specs.Panel.{Panel}
 use Rattle.rules.specs.Calls.{sendDeadline}
 use Rattle.rules.specs.Refusals.{broken, sendChecks, messageChecks, receiveChecks, clockChecks}
+use Rattle.rules.proofs.Checks.{Valid, broken-false}
+use Rattle.slots.specs.Slots.{Reads}
+use Rattle.panel.specs.Record.{sendChecksOn, frameChecksOn, clockChecksOn}
 
--- ---- send
+pub sendChecks-on : (p : Panel) (payload : List ℕ) (lifetime : ℕ) (output buffer : List ℕ)
+    → sendChecksOn (broken p) (length output) (length buffer) (length payload) (sendDeadline p lifetime) ≡ sendChecks p payload lifetime output buffer
+unfolding sendChecks
+sendChecks-on p payload lifetime output buffer = refl
 
-module _ (p : Panel) (payload : List ℕ) (lifetime : ℕ) (output buffer : List ℕ) where
-  pub send-26 : broken p ≡ true → 26 ≡ firstOf (sendChecks p payload lifetime output buffer)
-  unfolding sendChecks firstOf
-  send-26 b = rw b
+pub receiveChecks-on : (p : Panel) (bytes output : List ℕ)
+    → frameChecksOn (broken p) (length output) bytes ++ messageChecks p (messageIn width bytes) ≡ receiveChecks p bytes output
+unfolding receiveChecks
+receiveChecks-on p bytes output = refl
 
-  pub send-10 : broken p ≡ false → length output < outputLength → 10 ≡ firstOf (sendChecks p payload lifetime output buffer)
-  unfolding sendChecks firstOf
-  send-10 b short = rw (b, lt-ltb (length output) outputLength short)
+pub clockChecks-on : (p : Panel) (time : ℕ) (output : List ℕ) → clockChecksOn (broken p) (length output) time (p .time) ≡ clockChecks p time output
+unfolding clockChecks
+clockChecks-on p time output = refl
 
-  pub send-10-buffer : broken p ≡ false → outputLength ≤ length output → length buffer < bufferLength
-      → 10 ≡ firstOf (sendChecks p payload lifetime output buffer)
-  unfolding sendChecks firstOf
-  send-10-buffer b room short = rw (b, le-ltb (length output) outputLength room, lt-ltb (length buffer) bufferLength short)
-
-  module _ (b : broken p ≡ false) (room : outputLength ≤ length output) (frameRoom : bufferLength ≤ length buffer) where
-    pub send-9 : 32 < length payload → 9 ≡ firstOf (sendChecks p payload lifetime output buffer)
-    unfolding sendChecks firstOf
-    send-9 long =
-        rw (b, le-ltb (length output) outputLength room, le-ltb (length buffer) bufferLength frameRoom, lt-ltb 32 (length payload) long)
-
-    pub send-24 : length payload ≤ 32 → lastDeadline < sendDeadline p lifetime → 24 ≡ firstOf (sendChecks p payload lifetime output buffer)
-    unfolding sendChecks firstOf
-    send-24 short late =
-        rw (
-          b,
-          le-ltb (length output) outputLength room,
-          le-ltb (length buffer) bufferLength frameRoom,
-          le-ltb 32 (length payload) short,
-          lt-ltb lastDeadline (sendDeadline p lifetime) late,
-        )
-
-    pub send-0 : length payload ≤ 32 → sendDeadline p lifetime ≤ lastDeadline → firstOf (sendChecks p payload lifetime output buffer) ≡ 0
-    unfolding sendChecks firstOf
-    send-0 short early =
-        rw (
-          b,
-          le-ltb (length output) outputLength room,
-          le-ltb (length buffer) bufferLength frameRoom,
-          le-ltb 32 (length payload) short,
-          le-ltb lastDeadline (sendDeadline p lifetime) early,
-        )
-
--- ---- receive
+-- ---- a frame, before its message is looked at
 
 module _ (p : Panel) (bytes output : List ℕ) where
-  pub receive-26 : broken p ≡ true → 26 ≡ firstOf (receiveChecks p bytes output)
-  unfolding receiveChecks firstOf
-  receive-26 b = rw b
+  -- turned down
+  pub frame-refused : (firstOf (frameChecksOn (broken p) (length output) bytes) ≡ 0 → ⊥)
+      → firstOf (frameChecksOn (broken p) (length output) bytes) ≡ firstOf (receiveChecks p bytes output)
+  frame-refused refuses =
+      sym (firstOf-left (frameChecksOn (broken p) (length output) bytes) (messageChecks p (messageIn width bytes)) refuses)
+      ∙ ap firstOf (receiveChecks-on p bytes output)
 
-  pub receive-10 : broken p ≡ false → length output < outputLength → 10 ≡ firstOf (receiveChecks p bytes output)
-  unfolding receiveChecks firstOf
-  receive-10 b short = rw (b, lt-ltb (length output) outputLength short)
-
-  module _ (b : broken p ≡ false) (room : outputLength ≤ length output) where
-    behind : firstOf (receiveChecks p bytes output) ≡ firstOf (checks width bytes ++ messageChecks p (messageIn width bytes))
-    unfolding receiveChecks firstOf
-    behind = rw (b, le-ltb (length output) outputLength room)
-
-    -- 1 to 8
-    pub receive-read : (refusal width bytes ≡ 0 → ⊥) → refusal width bytes ≡ firstOf (receiveChecks p bytes output)
-    receive-read unread = sym (behind ∙ firstOf-left (checks width bytes) (messageChecks p (messageIn width bytes)) unread)
-
-    -- 20 to 23, or 0
-    pub receive-message : refusal width bytes ≡ 0 → firstOf (messageChecks p (messageIn width bytes)) ≡ firstOf (receiveChecks p bytes output)
+  -- let through
+  module _ (e : firstOf (frameChecksOn (broken p) (length output) bytes) ≡ 0) where
+    pub frame-through : firstOf (messageChecks p (messageIn width bytes)) ≡ firstOf (receiveChecks p bytes output)
     unfolding checks eachNumber
-    receive-message reads = sym (behind ∙ firstOf-right (checks width bytes) (messageChecks p (messageIn width bytes)) refl reads)
+    frame-through =
+        sym (firstOf-right (frameChecksOn (broken p) (length output) bytes) (messageChecks p (messageIn width bytes)) refl e)
+        ∙ ap firstOf (receiveChecks-on p bytes output)
 
--- ---- clock
+    parts : (firstOf ((broken p, 26) ∷ (ltb (length output) outputLength, 10) ∷ []) ≡ 0) × (firstOf (checks width bytes) ≡ 0)
+    unfolding eachNumber
+    parts = firstOf-append ((broken p, 26) ∷ (ltb (length output) outputLength, 10) ∷ []) (checks width bytes) refl e
 
-module _ (p : Panel) (time : ℕ) (output : List ℕ) where
-  pub clock-26 : broken p ≡ true → 26 ≡ firstOf (clockChecks p time output)
-  unfolding clockChecks firstOf
-  clock-26 b = rw b
+    pub through-reads : Reads bytes
+    through-reads = parts .1
 
-  pub clock-10 : broken p ≡ false → length output < outputLength → 10 ≡ firstOf (clockChecks p time output)
-  unfolding clockChecks firstOf
-  clock-10 b short = rw (b, lt-ltb (length output) outputLength short)
-
-  pub clock-25 : broken p ≡ false → outputLength ≤ length output → time < p .time → 25 ≡ firstOf (clockChecks p time output)
-  unfolding clockChecks firstOf
-  clock-25 b room early = rw (b, le-ltb (length output) outputLength room, lt-ltb time (p .time) early)
-
-  pub clock-0 : broken p ≡ false → outputLength ≤ length output → p .time ≤ time → firstOf (clockChecks p time output) ≡ 0
-  unfolding clockChecks firstOf
-  clock-0 b room late = rw (b, le-ltb (length output) outputLength room, le-ltb time (p .time) late)
+    pub through-valid : Valid p
+    unfolding eachNumber
+    through-valid = broken-false p (applies-none ((broken p, 26) ∷ (ltb (length output) outputLength, 10) ∷ []) refl (parts .0) 0)

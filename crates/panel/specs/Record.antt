@@ -1,11 +1,14 @@
 -- The record that the struct holds, what the answers say, and what the functions between them ensure.
 use Prim.Native.Nat.{ℕ, _+_}
 use mathlib.Core.Path.{_≡_}
-use mathlib.Core.Bool.{cond}
+use mathlib.Core.Bool.{Bool, cond, _||_}
 use mathlib.Core.List.{List, [], _∷_, _++_}
 use lib.ListN.{length}
+use lib.Dec.{ltb}
 use Rattle.numbers.specs.Buffer.{over}
 use Rattle.frame.specs.Message.{Message}
+use Rattle.frame.specs.Reading.{checks}
+use Rattle.rules.specs.Sizes.{width, lastDeadline, outputLength, bufferLength}
 use Rattle.rules.specs.Panel.{Panel as Record, ready}
 use Rattle.rules.specs.Handing.{hand, logRecords}
 use Rattle.rules.specs.Settling.{withWaiting}
@@ -50,19 +53,26 @@ abbrev pub clockedResult : Clocked → List ℕ → Result
 clockedResult answer output =
     record { number = answer .number; panel = recordOf (answer .panel); count = answer .count; output = output; frameLength = 0; buffer = [] }
 
--- the answers of calls that are turned down
-abbrev pub sentNothing : ℕ → Panel → Sent
-sentNothing number p = record { number = number; count = 0; length = 0; panel = p }
-
-abbrev pub receivedNothing : ℕ → Panel → Received
-receivedNothing number p = record { number = number; count = 0; panel = p }
-
-abbrev pub clockedNothing : ℕ → Panel → Clocked
-clockedNothing number p = record { number = number; count = 0; panel = p }
-
 -- on a refusal the very struct is given back, byte for byte
 abbrev pub GivenBack : ℕ → Panel → Panel → Type 0
 GivenBack number given back = (number ≡ 0 → ⊥) → back ≡ given
+
+-- ---- the checks of each call on what they ask for (`sendChecks`, `receiveChecks` and `clockChecks` of the rules are these)
+
+abbrev pub sendChecksOn : Bool → ℕ → ℕ → ℕ → ℕ → List (Bool × ℕ)
+sendChecksOn broken output buffer payload deadline =
+    (broken, 26)
+    ∷ (ltb output outputLength || ltb buffer bufferLength, 10)
+    ∷ (ltb 32 payload, 9)
+    ∷ (ltb lastDeadline deadline, 24)
+    ∷ []
+
+-- those before the checks of the message that was read
+abbrev pub frameChecksOn : Bool → ℕ → List ℕ → List (Bool × ℕ)
+frameChecksOn broken output bytes = (broken, 26) ∷ (ltb output outputLength, 10) ∷ checks width bytes
+
+abbrev pub clockChecksOn : Bool → ℕ → ℕ → ℕ → List (Bool × ℕ)
+clockChecksOn broken output reading time = (broken, 26) ∷ (ltb output outputLength, 10) ∷ (ltb reading time, 25) ∷ []
 
 -- ---- the functions between
 

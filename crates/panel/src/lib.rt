@@ -31,7 +31,7 @@ ghost use Rattle.rules.specs.Refusals.{broken as isBroken};
 ghost use Rattle.rules.specs.Results.{Promised, send, receive, clock};
 ghost use Rattle.slots.specs.Slots.{Reads, Slots, Kept, Listed, firstSlots};
 ghost use Rattle.settling.specs.Record.{stage, panelAt};
-ghost use Rattle.panel.specs.Record.{recordWith, recordOf, sentResult, receivedResult, clockedResult, sentNothing, receivedNothing, clockedNothing, GivenBack, started, Taken};
+ghost use Rattle.panel.specs.Record.{recordWith, recordOf, sentResult, receivedResult, clockedResult, GivenBack, sendChecksOn, frameChecksOn, clockChecksOn, started, Taken};
 
 // The record. Of the slots the first `count` hold the waiting messages in the order taken: 309 bytes
 // each, the length of a frame in 16 bits and then the frame.
@@ -168,6 +168,41 @@ fn send_deadline(time: u32, high: u32, lifetime: u16) -> u64
     by_time
 }
 
+// The number of the first check that turns down a send, or 0: 26, 10, 9, 24.
+fn send_number(broken: bool, output: usize, buffer: usize, payload: usize, deadline: u64) -> u8
+    ensures { λ r. ⌜ r ≡ firstOf (sendChecksOn broken output buffer payload deadline) ⌝ }
+{
+    if broken {
+        return 26;
+    }
+    if output < 1254 {
+        return 10;
+    }
+    if buffer < 307 {
+        return 10;
+    }
+    if 32 < payload {
+        return 9;
+    }
+    if 4294967295 < deadline {
+        return 24;
+    }
+    0
+}
+
+// The number of the first check that turns down a frame before its message is looked at, or 0: 26, 10, 1 to 8.
+fn frame_number(broken: bool, output: usize, frame: &[u8]) -> u8
+    ensures { λ r. ⌜ r ≡ firstOf (frameChecksOn broken output (now (frame .entry))) ⌝ }
+{
+    if broken {
+        return 26;
+    }
+    if output < 1254 {
+        return 10;
+    }
+    frame_check(frame)
+}
+
 // The number of the first check that turns down a message that was read, or 0: 20, 21, 22, 23.
 fn message_number<'a, 'b>(
     own: u8,
@@ -202,6 +237,22 @@ fn message_number<'a, 'b>(
         return 0;
     }
     23
+}
+
+// The number of the first check that turns down a clock reading, or 0: 26, 10, 25.
+fn clock_number(broken: bool, output: usize, reading: u32, time: u32) -> u8
+    ensures { λ r. ⌜ r ≡ firstOf (clockChecksOn broken output reading time) ⌝ }
+{
+    if broken {
+        return 26;
+    }
+    if output < 1254 {
+        return 10;
+    }
+    if reading < time {
+        return 25;
+    }
+    0
 }
 
 // The record as it begins to settle, with what is lent beside it.
@@ -244,34 +295,7 @@ fn take(
     rest
 }
 
-// The record that is left, with its waiting messages in the first slots.
-fn put_back(mut p: Panel, s: Settling, marks: [u32; 64], barrier: [u32; 64]) -> Panel
-    requires { ⌜ Listed (p .slots) (s .waiting) (s .places) ⌝ }
-    ensures { λ r. ⌜ recordOf r ≡ panelAt (p .slots) (stage s marks barrier []) ⌝ }
-{
-    let places = s.places;
-    gather(&mut p.slots, &places, s.waiting);
-    p.own = s.own;
-    p.time = s.time;
-    p.high = s.high;
-    p.count = s.waiting;
-    p.marks = marks;
-    p.barrier = barrier;
-    p
-}
-
-// A send that is turned down.
-fn unsent(number: u8, p: Panel) -> Sent
-    ensures { λ r. ⌜ r ≡ sentNothing number p ⌝ }
-{
-    Sent {
-        number,
-        count: 0,
-        length: 0,
-        panel: p,
-    }
-}
-
+// Send.
 #[no_mangle]
 pub extern "C" fn panel_send<'a, 'b, 'c>(
     p: Panel,
@@ -284,21 +308,16 @@ pub extern "C" fn panel_send<'a, 'b, 'c>(
         (sentResult r (now (output .exit)) (now (buffer .exit))) ⌝ }
     ensures { λ r. ⌜ GivenBack (r .number) p (r .panel) ⌝ }
 {
-    if broken(p.own, p.high, p.count, &p.marks, &p.barrier, &p.slots) {
-        return unsent(26, p);
-    }
-    if output.len() < 1254 {
-        return unsent(10, p);
-    }
-    if buffer.len() < 307 {
-        return unsent(10, p);
-    }
-    if 32 < payload.len() {
-        return unsent(9, p);
-    }
+    let broken = broken(p.own, p.high, p.count, &p.marks, &p.barrier, &p.slots);
     let deadline = send_deadline(p.time, p.high, lifetime);
-    if 4294967295 < deadline {
-        return unsent(24, p);
+    let number = send_number(broken, output.len(), buffer.len(), payload.len(), deadline);
+    if number != 0 {
+        return Sent {
+            number,
+            count: 0,
+            length: 0,
+            panel: p,
+        };
     }
     let entries = p.barrier;
     let length = write(p.own, deadline as u32, entries, payload, buffer);
@@ -307,88 +326,76 @@ pub extern "C" fn panel_send<'a, 'b, 'c>(
     let begun = start(p.own, p.time, p.high, p.count);
     let handed = hand(begun, &mut marks, &mut barrier, &buffer[0..length], output);
     let settled = settle(handed, &mut marks, &mut barrier, &p.slots, output);
-    let count = settled.handed;
-    let panel = put_back(p, settled, marks, barrier);
+    let places = settled.places;
+    let mut q = p;
+    gather(&mut q.slots, &places, settled.waiting);
+    q.own = settled.own;
+    q.time = settled.time;
+    q.high = settled.high;
+    q.count = settled.waiting;
+    q.marks = marks;
+    q.barrier = barrier;
     Sent {
         number: 0,
-        count,
+        count: settled.handed,
         length,
-        panel,
+        panel: q,
     }
 }
 
-// A frame that is turned down.
-fn unreceived(number: u8, p: Panel) -> Received
-    ensures { λ r. ⌜ r ≡ receivedNothing number p ⌝ }
-{
-    Received {
-        number,
-        count: 0,
-        panel: p,
-    }
-}
-
+// Receive.
 #[no_mangle]
-pub extern "C" fn panel_receive<'a, 'b>(
-    mut p: Panel,
-    frame: &'a [u8],
-    output: &'b mut [u8],
-) -> Received
+pub extern "C" fn panel_receive<'a, 'b>(p: Panel, frame: &'a [u8], output: &'b mut [u8]) -> Received
     ensures { λ r. ⌜ Promised (recordOf p) (receive (now (frame .entry)) (now (output .entry))) (receivedResult r (now (output .exit))) ⌝ }
     ensures { λ r. ⌜ GivenBack (r .number) p (r .panel) ⌝ }
 {
-    if broken(p.own, p.high, p.count, &p.marks, &p.barrier, &p.slots) {
-        return unreceived(26, p);
+    let broken = broken(p.own, p.high, p.count, &p.marks, &p.barrier, &p.slots);
+    let mut number = frame_number(broken, output.len(), frame);
+    if number == 0 {
+        number = message_number(p.own, p.time, p.count, &p.marks, &p.slots, frame);
     }
-    if output.len() < 1254 {
-        return unreceived(10, p);
-    }
-    let read = frame_check(frame);
-    if read != 0 {
-        return unreceived(read, p);
-    }
-    let number = message_number(p.own, p.time, p.count, &p.marks, &p.slots, frame);
     if number != 0 {
-        return unreceived(number, p);
+        return Received {
+            number,
+            count: 0,
+            panel: p,
+        };
     }
     let mut marks = p.marks;
     let mut barrier = p.barrier;
     let begun = start(p.own, p.time, p.high, p.count);
-    let taken = take(begun, &mut marks, &mut barrier, &mut p.slots, frame, output);
-    let settled = settle(taken, &mut marks, &mut barrier, &p.slots, output);
-    let count = settled.handed;
-    let panel = put_back(p, settled, marks, barrier);
+    let mut q = p;
+    let taken = take(begun, &mut marks, &mut barrier, &mut q.slots, frame, output);
+    let settled = settle(taken, &mut marks, &mut barrier, &q.slots, output);
+    let places = settled.places;
+    gather(&mut q.slots, &places, settled.waiting);
+    q.own = settled.own;
+    q.time = settled.time;
+    q.high = settled.high;
+    q.count = settled.waiting;
+    q.marks = marks;
+    q.barrier = barrier;
     Received {
         number: 0,
-        count,
-        panel,
+        count: settled.handed,
+        panel: q,
     }
 }
 
-// A clock reading that is turned down.
-fn unclocked(number: u8, p: Panel) -> Clocked
-    ensures { λ r. ⌜ r ≡ clockedNothing number p ⌝ }
-{
-    Clocked {
-        number,
-        count: 0,
-        panel: p,
-    }
-}
-
+// Clock.
 #[no_mangle]
 pub extern "C" fn panel_clock(p: Panel, time: u32, output: &mut [u8]) -> Clocked
     ensures { λ r. ⌜ Promised (recordOf p) (clock time (now (output .entry))) (clockedResult r (now (output .exit))) ⌝ }
     ensures { λ r. ⌜ GivenBack (r .number) p (r .panel) ⌝ }
 {
-    if broken(p.own, p.high, p.count, &p.marks, &p.barrier, &p.slots) {
-        return unclocked(26, p);
-    }
-    if output.len() < 1254 {
-        return unclocked(10, p);
-    }
-    if time < p.time {
-        return unclocked(25, p);
+    let broken = broken(p.own, p.high, p.count, &p.marks, &p.barrier, &p.slots);
+    let number = clock_number(broken, output.len(), time, p.time);
+    if number != 0 {
+        return Clocked {
+            number,
+            count: 0,
+            panel: p,
+        };
     }
     let kept = alive(&p.slots, p.count, time);
     let places = kept.slots;
@@ -403,11 +410,18 @@ pub extern "C" fn panel_clock(p: Panel, time: u32, output: &mut [u8]) -> Clocked
         handed: 0,
     };
     let settled = settle(begun, &mut marks, &mut barrier, &p.slots, output);
-    let count = settled.handed;
-    let panel = put_back(p, settled, marks, barrier);
+    let places = settled.places;
+    let mut q = p;
+    gather(&mut q.slots, &places, settled.waiting);
+    q.own = settled.own;
+    q.time = settled.time;
+    q.high = settled.high;
+    q.count = settled.waiting;
+    q.marks = marks;
+    q.barrier = barrier;
     Clocked {
         number: 0,
-        count,
-        panel,
+        count: settled.handed,
+        panel: q,
     }
 }

@@ -1,86 +1,82 @@
--- `panel::panel_clock` meets its contract: each refusal is the first check that applies, and the rest is document 01's clock. Assumes nothing.
-use mathlib.Core.Path.{_≡_, sym, _∙_}
-use mathlib.Core.Bool.{false}
+-- `panel::panel_clock` meets its contract: a refusal is the first check that applies, and the rest is document 01's clock. Assumes nothing.
+use mathlib.Core.Path.{_≡_, refl, sym, ap, _∙_}
+use mathlib.Core.Bool.{Bool}
 use native.Mathlib.Omega.{arith}
 use borrow.Author.Needs.{needs}
-use Rattle.rules.specs.Refusals.{broken}
-use Rattle.panel.specs.Record.{recordOf}
-use Rattle.panel.proofs.Checking.{clock-26, clock-10, clock-25, clock-0}
+use lib.ListN.{length}
+use Rattle.frame.specs.Refusal.{firstOf}
+use Rattle.rules.specs.Refusals.{broken, clockChecks}
+use Rattle.rules.specs.Results.{refused, clock}
+use Rattle.rules.proofs.Checks.{ClockPassed, clock-passed}
 use Rattle.settling.specs.Record.{stage}
-use Rattle.panel.proofs.Answering.{clocked-refused, kept}
+use Rattle.panel.specs.Record.{recordOf, clockChecksOn}
+use Rattle.panel.proofs.Checking.{clockChecks-on}
+use Rattle.panel.proofs.Answering.{refused-promised, valid-kept, gathered-record}
 use Rattle.panel.proofs.Clocking.{clocked-done}
 use Rattle.panel.proofs.panel_clock.Statement.{statement}
 use Rattle.panel.proofs.panel_clock.Tie as tie
 
--- what was asked of the record first
-asked : (c : tie.After-broken) → c .broken .result ≡ broken (recordOf (c .before .before .before .before .before .before .before .args .t1))
+-- the number is that of the first check that applies
+numbered : (c : tie.After-clock-number)
+    → c .clock-number .result ≡ firstOf (clockChecks (recordOf (c .before .before .before .before .before .before .before .before .args .t1)) (c .before .before .before .before .before .before .before .before .args .time) (c .before .before .before .before .before .before .before .before .args .output .now))
 unfolding broken
-asked c = c .broken .ensures
+numbered c =
+    let a = c .before .before .before .before .before .before .before .before .args in
+    c .clock-number .ensures
+    ∙ ap (λ (b : Bool). firstOf (clockChecksOn b (length (a .output .now)) (a .time) (a .t1 .time))) (c .before .broken .ensures)
+    ∙ ap firstOf (clockChecks-on (recordOf (a .t1)) (a .time) (a .output .now))
 
-sound : (c : tie.Else1) → broken (recordOf (c .before .before .before .before .before .before .before .before .args .t1)) ≡ false
-sound c = sym (asked (c .before)) ∙ c .if1 .left
+passed : (c : tie.Else1) → firstOf (clockChecks (recordOf (c .before .before .before .before .before .before .before .before .before .args .t1)) (c .before .before .before .before .before .before .before .before .before .args .time) (c .before .before .before .before .before .before .before .before .before .args .output .now)) ≡ 0
+passed c = sym (numbered (c .before)) ∙ c .if1 .left
+
+checked : (c : tie.Else1) → ClockPassed (recordOf (c .before .before .before .before .before .before .before .before .before .args .t1)) (c .before .before .before .before .before .before .before .before .before .args .time) (c .before .before .before .before .before .before .before .before .before .args .output .now)
+checked c = clock-passed (recordOf (c .before .before .before .before .before .before .before .before .before .args .t1)) (c .before .before .before .before .before .before .before .before .before .args .time) (c .before .before .before .before .before .before .before .before .before .args .output .now) (passed c)
+
+long : (c : tie.After-settle) → length (c .settle .result .places) ≡ 32
+long c = search needs
 
 broken-requires : tie.Need-broken-requires
 broken-requires c κs = search needs
 
-unclocked-requires : tie.Need-unclocked-requires
-unclocked-requires c κs = search needs
+clock-number-requires : tie.Need-clock-number-requires
+clock-number-requires c κs = search needs
 
 returns : tie.Need-returns
-returns c = clocked-refused _ 26 (λ e. omega arith) _ _ _ (c .unclocked .ensures) (clock-26 _ _ _ (sym (asked (c .before .before)) ∙ c .before .if1 .taken))
-
-unclocked-requires-2 : tie.Need-unclocked-requires-2
-unclocked-requires-2 c κs = search needs
-
-returns-2 : tie.Need-returns-2
-returns-2 c = clocked-refused _ 10 (λ e. omega arith) _ _ _ (c .unclocked2 .ensures) (clock-10 _ _ _ (sound (c .before .before)) (c .before .if2 .taken))
-
-unclocked-requires-3 : tie.Need-unclocked-requires-3
-unclocked-requires-3 c κs = search needs
-
-returns-3 : tie.Need-returns-3
-returns-3 c =
-    clocked-refused _ 25 (λ e. omega arith) _ _ _ (c .unclocked3 .ensures)
-    (clock-25 _ _ _ (sound (c .before .before .before)) (c .before .before .if2 .left) (c .before .if3 .taken))
+unfolding refused
+returns c = (refused-promised _ (clock _ _) _ (numbered (c .before)) (c .if1 .taken), λ _. refl)
 
 alive-requires : tie.Need-alive-requires
-alive-requires c κs =
-    let past = c .before .before .before .before .before in
-    (search needs, kept _ (sound past))
+alive-requires c κs = (search needs, valid-kept _ (checked (c .before .before .before) .valid))
 
 settle-requires : tie.Need-settle-requires
-settle-requires c κs = search needs
+settle-requires c κs =
+    let listed = c .before .before .before .before .before .before .before .before .before .alive .ensures .listed in
+    ((search needs, listed), omega (arith, listed .few, checked (c .before .before .before .before .before .before .before .before .before .before .before .before .before) .output-room))
 
-put-back-requires : tie.Need-put-back-requires
-put-back-requires c κs = search needs
+gather-requires : tie.Need-gather-requires
+gather-requires c κs = search needs
 
 same-length : tie.Need-same-length
 same-length c = search needs
 
-returns-4 : tie.Need-returns-4
-returns-4 c =
-    let s = c .before .before .before .before .before .before .before .before .before .before .before .before .before .before .before .before .before .before .before .before .before .before .before .before .before .before .before in
-    let past = c .before .before .before .before .before .before .before .before .before .before .before .before .before .before .before .before .before in
-    let settled = c .before .before .before .settle in
-    clocked-done (s .args .t1) (s .args .time) (s .args .output .now) _ (c .before .before .before .before .before .before .before .before .before .before .before .before .before .alive .ensures)
-    (stage (settled .result) (settled .last .1 .0) (settled .last .1 .1 .0) (settled .last .1 .1 .1 .1 .0)) _
-    (clock-0 _ _ _ (sound (past .before .before)) (past .before .if2 .left) (past .if3 .left))
-    (settled .ensures)
-    (c .put-back .ensures)
+returns-2 : tie.Need-returns-2
+returns-2 c =
+    let past = c .before .before .before .before .before .before .before .before .before .before .before .before .before .before .before .before .before .before .before .before in
+    let a = past .before .before .before .before .before .before .before .before .before .args in
+    let settled = c .before .before .before .before .before .before .settle in
+    clocked-done (a .t1) (a .time) (a .output .now) _ (c .before .before .before .before .before .before .before .before .before .before .before .before .before .before .before .before .alive .ensures)
+    (stage (settled .result) (settled .last .1 .0) (settled .last .1 .1 .0) (settled .last .1 .1 .1 .1 .0)) _ (passed past) (settled .ensures)
+    (gathered-record (a .t1 .slots) (settled .result) _ _ (settled .last .1 .1 .1 .1 .0) _ (omega (arith, long (c .before .before .before .before .before .before), settled .ensures .listed .few)) (c .gather .ensures))
 
 pub panel-clock-spec : {M : Type 1} → statement M
 panel-clock-spec =
     tie.close
     (tie.spec
     broken-requires
-    unclocked-requires
+    clock-number-requires
     returns
-    unclocked-requires-2
-    returns-2
-    unclocked-requires-3
-    returns-3
     alive-requires
     settle-requires
-    put-back-requires
+    gather-requires
     same-length
-    returns-4)
+    returns-2)

@@ -1,85 +1,72 @@
--- `panel::panel_receive` meets its contract: each refusal is the first check that applies, and the rest is document 01's receive. Assumes nothing.
-use mathlib.Core.Path.{_≡_, refl, sym, _∙_}
-use mathlib.Core.Bool.{false}
-use mathlib.Core.Logic.{_⊎_, inl, inr, ⊎-elim}
+-- `panel::panel_receive` meets its contract: a refusal is the first check that applies, and the rest is document 01's receive. Assumes nothing.
+use mathlib.Core.Path.{_≡_, refl, sym, ap, _∙_}
+use mathlib.Core.Bool.{Bool}
+use mathlib.Core.Logic.{inl, inr, ⊎-elim}
 use native.Mathlib.Omega.{arith}
 use borrow.Author.Needs.{needs}
-use Rattle.frame.specs.Reading.{refusal, messageIn}
+use lib.ListN.{length}
 use Rattle.frame.specs.Refusal.{firstOf}
+use Rattle.frame.specs.Reading.{messageIn}
 use Rattle.rules.specs.Panel.{met, lapsed, ready}
 use Rattle.rules.specs.Refusals.{broken, messageChecks, receiveChecks}
+use Rattle.rules.specs.Results.{refused, receive}
+use Rattle.rules.proofs.Checks.{ReceivePassed, receive-passed}
 use Rattle.settling.specs.Record.{stage}
-use Rattle.panel.specs.Record.{recordOf}
-use Rattle.panel.proofs.Checking.{receive-26, receive-10, receive-read, receive-message}
-use Rattle.panel.proofs.Answering.{received-refused, kept}
+use Rattle.panel.specs.Record.{recordOf, frameChecksOn}
+use Rattle.panel.proofs.Checking.{frame-refused, frame-through, through-reads, through-valid}
+use Rattle.panel.proofs.Answering.{refused-promised, valid-kept, gathered-record}
 use Rattle.panel.proofs.Receiving.{panel-started, room, received-done}
 use Rattle.panel.proofs.panel_receive.Statement.{statement}
 use Rattle.panel.proofs.panel_receive.Tie as tie
 
--- what was asked of the record first
-asked : (c : tie.After-broken) → c .broken .result ≡ broken (recordOf (c .before .before .before .before .before .before .before .before .args .t1))
+-- the number is that of the first check that applies
+framed : (c : tie.After-frame-number)
+    → c .frame-number .result
+    ≡ firstOf (frameChecksOn (broken (recordOf (c .before .before .before .before .before .before .before .before .before .args .t1))) (length (c .before .before .before .before .before .before .before .before .before .args .output .now)) (c .before .before .before .before .before .before .before .before .before .args .frame .now))
 unfolding broken
-asked c = c .broken .ensures
+framed c =
+    let a = c .before .before .before .before .before .before .before .before .before .args in
+    c .frame-number .ensures ∙ ap (λ (b : Bool). firstOf (frameChecksOn b (length (a .output .now)) (a .frame .now))) (c .before .broken .ensures)
 
-sound : (c : tie.Else1) → broken (recordOf (c .before .before .before .before .before .before .before .before .before .args .t1)) ≡ false
-sound c = sym (asked (c .before)) ∙ c .if1 .left
-
--- what was asked of the message
-numbered : (c : tie.After-message-number) → c .message-number .result ≡ firstOf (messageChecks (recordOf (c .before .before .before .before .before .before .before .before .before .before .before .before .before .before .before .before .before .args .t1)) (messageIn 4 (c .before .before .before .before .before .before .before .before .before .before .before .before .before .before .before .before .before .args .frame .now)))
+numbered : (c : tie.Joined1)
+    → c .if1 .number ≡ firstOf (receiveChecks (recordOf (c .before .before .before .before .before .before .before .before .before .before .args .t1)) (c .before .before .before .before .before .before .before .before .before .before .args .frame .now) (c .before .before .before .before .before .before .before .before .before .before .args .output .now))
 unfolding messageChecks ready met lapsed
-numbered c = c .message-number .ensures
+numbered c =
+    let first-number = framed (c .before) in
+    ⊎-elim
+    (λ w. w .6 ∙ w .5 .ensures ∙ frame-through _ _ _ (sym first-number ∙ w .0 .taken))
+    (λ w. w .1 ∙ first-number ∙ frame-refused _ _ _ (λ e. w .0 .left (first-number ∙ e)))
+    (c .if1 .came)
 
--- past the checks
-reads : (c : tie.Else3) → refusal 4 (c .before .before .before .before .before .before .before .before .before .before .before .before .args .frame .now) ≡ 0
-reads c = sym (c .before .frame-check .ensures) ∙ c .if3 .left
+passed : (c : tie.Else2) → firstOf (receiveChecks (recordOf (c .before .before .before .before .before .before .before .before .before .before .before .args .t1)) (c .before .before .before .before .before .before .before .before .before .before .before .args .frame .now) (c .before .before .before .before .before .before .before .before .before .before .before .args .output .now)) ≡ 0
+passed c = sym (numbered (c .before)) ∙ c .if2 .left
 
-checked : (c : tie.After-message-number)
-    → c .message-number .result ≡ firstOf (receiveChecks (recordOf (c .before .before .before .before .before .before .before .before .before .before .before .before .before .before .before .before .before .args .t1)) (c .before .before .before .before .before .before .before .before .before .before .before .before .before .before .before .before .before .args .frame .now) (c .before .before .before .before .before .before .before .before .before .before .before .before .before .before .before .before .before .args .output .now))
-checked c =
-    let past = c .before .before .before .before .before in
-    numbered c ∙ receive-message _ _ _ (sound (past .before .before .before)) (past .before .before .if2 .left) (reads past)
+checked : (c : tie.Else2)
+    → ReceivePassed (recordOf (c .before .before .before .before .before .before .before .before .before .before .before .args .t1)) (c .before .before .before .before .before .before .before .before .before .before .before .args .frame .now) (c .before .before .before .before .before .before .before .before .before .before .before .args .output .now) (messageIn 4 (c .before .before .before .before .before .before .before .before .before .before .before .args .frame .now))
+checked c = receive-passed (recordOf (c .before .before .before .before .before .before .before .before .before .before .before .args .t1)) (c .before .before .before .before .before .before .before .before .before .before .before .args .frame .now) (c .before .before .before .before .before .before .before .before .before .before .before .args .output .now) (passed c)
 
-passed : (c : tie.Else4) → firstOf (receiveChecks (recordOf (c .before .before .before .before .before .before .before .before .before .before .before .before .before .before .before .before .before .before .args .t1)) (c .before .before .before .before .before .before .before .before .before .before .before .before .before .before .before .before .before .before .args .frame .now) (c .before .before .before .before .before .before .before .before .before .before .before .before .before .before .before .before .before .before .args .output .now)) ≡ 0
-passed c = sym (checked (c .before)) ∙ c .if4 .left
+long : (c : tie.After-settle) → length (c .settle .result .places) ≡ 32
+long c = search needs
 
 broken-requires : tie.Need-broken-requires
 broken-requires c κs = search needs
 
-unreceived-requires : tie.Need-unreceived-requires
-unreceived-requires c κs = search needs
-
-returns : tie.Need-returns
-returns c = received-refused _ 26 (λ e. omega arith) _ _ _ (c .unreceived .ensures) (receive-26 _ _ _ (sym (asked (c .before .before)) ∙ c .before .if1 .taken))
-
-unreceived-requires-2 : tie.Need-unreceived-requires-2
-unreceived-requires-2 c κs = search needs
-
-returns-2 : tie.Need-returns-2
-returns-2 c = received-refused _ 10 (λ e. omega arith) _ _ _ (c .unreceived2 .ensures) (receive-10 _ _ _ (sound (c .before .before)) (c .before .if2 .taken))
-
-frame-check-requires : tie.Need-frame-check-requires
-frame-check-requires c κs = search needs
-
-unreceived-requires-3 : tie.Need-unreceived-requires-3
-unreceived-requires-3 c κs = search needs
-
-returns-3 : tie.Need-returns-3
-returns-3 c =
-    let read = c .before .before .frame-check .ensures in
-    let fits = c .before .before .before in
-    received-refused _ _ (c .before .if3 .taken) _ _ _ (c .unreceived3 .ensures)
-    (read ∙ receive-read _ _ _ (sound (fits .before)) (fits .if2 .left) (λ e. c .before .if3 .taken (read ∙ e)))
+frame-number-requires : tie.Need-frame-number-requires
+frame-number-requires c κs = search needs
 
 message-number-requires : tie.Need-message-number-requires
 message-number-requires c κs =
-    let past = c .before .before .before .before in
-    (reads past, search needs, kept _ (sound (past .before .before .before)))
+    let test = c .before .before .before .before in
+    let a = c .before .before .before .before .before .before .before .before .before .before .before .before .before .before .args in
+    let through = sym (framed (test .before)) ∙ test .if1 .taken in (
+      through-reads (recordOf (a .t1)) (a .frame .now) (a .output .now) through,
+      search needs,
+      valid-kept (a .t1) (through-valid (recordOf (a .t1)) (a .frame .now) (a .output .now) through),
+    )
 
-unreceived-requires-4 : tie.Need-unreceived-requires-4
-unreceived-requires-4 c κs = search needs
-
-returns-4 : tie.Need-returns-4
-returns-4 c = received-refused _ _ (c .before .if4 .taken) _ _ _ (c .unreceived4 .ensures) (checked (c .before .before))
+returns : tie.Need-returns
+unfolding refused
+returns c = (refused-promised _ (receive _ _) _ (numbered (c .before)) (c .if2 .taken), λ _. refl)
 
 start-requires : tie.Need-start-requires
 start-requires c κs = search needs
@@ -87,60 +74,53 @@ start-requires c κs = search needs
 take-requires : tie.Need-take-requires
 take-requires c κs =
     let past = c .before .before .before .before .before .before .before in
-    let read = past .before .before .before .before .before .before in
-    let s = past .before .before .before .before .before .before .before .before .before .before .before .before .before .before .before .before .before .before in
-    let whole = kept (s .args .t1) (sound (read .before .before .before)) in
+    let a = past .before .before .before .before .before .before .before .before .before .before .before .args in
+    let whole = valid-kept (a .t1) (checked past .valid) in
     rw (c .before .before .before .before .start .ensures) (
-      (reads read, search needs, whole, refl),
-      (⊎-elim (λ few. inl few) (λ r. inr (rw (panel-started (s .args .t1) _ whole) r)) (room (s .args .t1) _ _ (passed past)), omega (arith, read .before .before .if2 .left)),
+      (checked past .read, search needs, whole, refl),
+      (
+        ⊎-elim (λ few. inl few) (λ r. inr (rw (panel-started (a .t1) _ whole) r)) (room (a .t1) _ _ (passed past)),
+        omega (arith, checked past .output-room),
+      ),
     )
 
 settle-requires : tie.Need-settle-requires
 settle-requires c κs =
-    let take = c .before .before .before .before .before .before .before .before .take in
-    let taken = take .ensures in
     let past = c .before .before .before .before .before .before .before .before .before .before .before .before .before .before .before .before in
-    let read = past .before .before .before .before .before .before in
-    let whole = kept _ (sound (read .before .before .before)) in
-    let more = rw (c .before .before .before .before .before .before .before .before .before .before .before .before .before .start .ensures) at (taken .one-more) in
-    ((taken .size, taken .listed), omega (arith, more, whole .few, read .before .before .if2 .left, take .kept .1 .1 .1 .1 .1 .0))
+    let take = c .before .before .before .before .before .before .before .before .take in
+    let more = rw (c .before .before .before .before .before .before .before .before .before .before .before .before .before .start .ensures) at (take .ensures .one-more) in
+    let few = valid-kept _ (checked past .valid) .few in (
+      (take .ensures .size, take .ensures .listed),
+      omega (arith, more, few, checked past .output-room, take .kept .1 .1 .1 .1 .1 .0),
+    )
 
-put-back-requires : tie.Need-put-back-requires
-put-back-requires c κs = search needs
+gather-requires : tie.Need-gather-requires
+gather-requires c κs = search needs
 
 same-length : tie.Need-same-length
 same-length c = search needs
 
-returns-5 : tie.Need-returns-5
-returns-5 c =
-    let past = c .before .before .before .before .before .before .before .before .before .before .before .before .before .before .before .before .before .before .before .before in
-    let read = past .before .before .before .before .before .before in
-    let s = past .before .before .before .before .before .before .before .before .before .before .before .before .before .before .before .before .before .before in
-    let settled = c .before .before .before .settle in
-    let taken = c .before .before .before .before .before .before .before .before .before .before .before .before .take in
-    received-done (s .args .t1) (s .args .frame .now) (s .args .output .now) (kept (s .args .t1) (sound (read .before .before .before))) (reads read)
-    _ _ (stage (settled .result) (settled .last .1 .0) (settled .last .1 .1 .0) (settled .last .1 .1 .1 .1 .0))
-    (rw (c .before .before .before .before .before .before .before .before .before .before .before .before .before .before .before .before .before .start .ensures) at (taken .ensures)) (settled .ensures)
-    (c .put-back .result) (passed past) (c .put-back .ensures)
+returns-2 : tie.Need-returns-2
+returns-2 c =
+    let past = c .before .before .before .before .before .before .before .before .before .before .before .before .before .before .before .before .before .before .before .before .before .before .before in
+    let a = past .before .before .before .before .before .before .before .before .before .before .before .args in
+    let settled = c .before .before .before .before .before .before .settle in
+    let taken = rw (c .before .before .before .before .before .before .before .before .before .before .before .before .before .before .before .before .before .before .before .before .start .ensures) at (c .before .before .before .before .before .before .before .before .before .before .before .before .before .before .before .take .ensures) in
+    received-done (a .t1) (a .frame .now) (a .output .now) (valid-kept (a .t1) (checked past .valid)) (checked past .read) _ _
+    (stage (settled .result) (settled .last .1 .0) (settled .last .1 .1 .0) (settled .last .1 .1 .1 .1 .0)) taken (settled .ensures) _ (passed past)
+    (gathered-record _ (settled .result) _ _ (settled .last .1 .1 .1 .1 .0) _ (omega (arith, long (c .before .before .before .before .before .before), settled .ensures .listed .few)) (c .gather .ensures))
 
 pub panel-receive-spec : {M : Type 1} → statement M
 panel-receive-spec =
     tie.close
     (tie.spec
     broken-requires
-    unreceived-requires
-    returns
-    unreceived-requires-2
-    returns-2
-    frame-check-requires
-    unreceived-requires-3
-    returns-3
+    frame-number-requires
     message-number-requires
-    unreceived-requires-4
-    returns-4
+    returns
     start-requires
     take-requires
     settle-requires
-    put-back-requires
+    gather-requires
     same-length
-    returns-5)
+    returns-2)

@@ -1,6 +1,6 @@
--- `panel::panel_send` meets its contract: each refusal is the first check that applies, and the rest is document 01's send. Assumes nothing.
-use mathlib.Core.Path.{_≡_, sym, _∙_}
-use mathlib.Core.Bool.{false}
+-- `panel::panel_send` meets its contract: a refusal is the first check that applies, and the rest is document 01's send. Assumes nothing.
+use mathlib.Core.Path.{_≡_, refl, sym, ap, ap₂, _∙_}
+use mathlib.Core.Bool.{Bool}
 use mathlib.Core.List.{List}
 use Prim.Native.Nat.{ℕ, _-_}
 use native.Mathlib.Nat.{sub-zero}
@@ -8,42 +8,23 @@ use native.Mathlib.Omega.{arith}
 use borrow.Author.Needs.{needs}
 use lib.ListN.{length, take}
 use Rattle.numbers.specs.Numbers.{Bytes}
-use Rattle.frame.specs.Refusal.{firstOf}
-use Rattle.frame.specs.Frame.{frame}
 use Rattle.numbers.specs.Buffer.{over}
 use Rattle.numbers.proofs.Over.{take-over}
-use Rattle.slots.proofs.Kept.{listed-order}
+use Rattle.frame.specs.Frame.{frame}
+use Rattle.frame.specs.Refusal.{firstOf}
 use Rattle.rules.specs.Panel.{none64}
 use Rattle.rules.specs.Calls.{newMessage, sendDeadline}
 use Rattle.rules.specs.Refusals.{broken, sendChecks}
+use Rattle.rules.specs.Results.{refused, send}
+use Rattle.rules.proofs.Checks.{SendPassed, send-passed}
+use Rattle.slots.proofs.Kept.{listed-order}
 use Rattle.settling.specs.Record.{stage}
-use Rattle.panel.specs.Record.{recordOf}
-use Rattle.panel.proofs.Checking.{send-26, send-10, send-10-buffer, send-9, send-24, send-0}
-use Rattle.panel.proofs.Answering.{sent-refused, kept}
+use Rattle.panel.specs.Record.{recordOf, sendChecksOn}
+use Rattle.panel.proofs.Checking.{sendChecks-on}
+use Rattle.panel.proofs.Answering.{refused-promised, valid-kept, gathered-record}
 use Rattle.panel.proofs.Sending.{frame-fits, length-written, buffer-written, frame-reads, stage-handed, sent-done}
 use Rattle.panel.proofs.panel_send.Statement.{statement}
 use Rattle.panel.proofs.panel_send.Tie as tie
-
--- what was asked of the record first
-asked : (c : tie.After-broken) → c .broken .result ≡ broken (recordOf (c .before .before .before .before .before .before .before .before .before .args .t1))
-unfolding broken
-asked c = c .broken .ensures
-
-sound : (c : tie.Else1) → broken (recordOf (c .before .before .before .before .before .before .before .before .before .before .args .t1)) ≡ false
-sound c = sym (asked (c .before)) ∙ c .if1 .left
-
--- the deadline that the message would have
-due : (c : tie.After-send-deadline) → c .send-deadline .result ≡ sendDeadline (recordOf (c .before .before .before .before .before .before .before .before .before .before .before .before .before .before .args .t1)) (c .before .before .before .before .before .before .before .before .before .before .before .before .before .before .args .lifetime)
-unfolding sendDeadline
-due c = c .send-deadline .ensures
-
--- past the checks
-passed : (c : tie.Else5)
-    → firstOf (sendChecks (recordOf (c .before .before .before .before .before .before .before .before .before .before .before .before .before .before .before .args .t1)) (c .before .before .before .before .before .before .before .before .before .before .before .before .before .before .before .args .payload .now) (c .before .before .before .before .before .before .before .before .before .before .before .before .before .before .before .args .lifetime) (c .before .before .before .before .before .before .before .before .before .before .before .before .before .before .before .args .output .now) (c .before .before .before .before .before .before .before .before .before .before .before .before .before .before .before .args .buffer .now)) ≡ 0
-passed c =
-    let short = c .before .before in
-    send-0 _ _ _ _ _ (sound (short .before .before .before)) (short .before .before .if2 .left) (short .before .if3 .left) (short .if4 .left)
-    (omega (arith, due (c .before), c .if5 .left))
 
 payload-bytes : (c : tie.After-shared-slice-known) → Bytes (c .before .args .payload .now)
 payload-bytes c = λ i. omega (arith, c .shared-slice-known .given i)
@@ -51,74 +32,67 @@ payload-bytes c = λ i. omega (arith, c .shared-slice-known .given i)
 panels : (c : tie.Start) → length (c .args .t1 .barrier) ≡ 64
 panels c = search needs
 
--- the frame that was written
-abbrev new-frame : tie.Else5 → List ℕ
-new-frame c = frame 4 (newMessage (recordOf (c .before .before .before .before .before .before .before .before .before .before .before .before .before .before .before .args .t1)) (c .before .before .before .before .before .before .before .before .before .before .before .before .before .before .before .args .payload .now) (c .before .before .before .before .before .before .before .before .before .before .before .before .before .before .before .args .lifetime))
+-- the deadline that the message would have
+due : (c : tie.After-send-deadline) → c .send-deadline .result ≡ sendDeadline (recordOf (c .before .before .before .before .before .before .before .before .before .before .args .t1)) (c .before .before .before .before .before .before .before .before .before .before .args .lifetime)
+unfolding sendDeadline
+due c = c .send-deadline .ensures
 
-wrote : (c : tie.After-write) → (c .write .result ≡ length (new-frame (c .before .before .before))) × (c .write .last .1 .1 .1 .1 .0 ≡ over (c .before .before .before .before .before .before .before .before .before .before .before .before .before .before .before .before .before .before .args .buffer .now) 0 (new-frame (c .before .before .before)))
+-- the number is that of the first check that applies
+numbered : (c : tie.After-send-number) → c .send-number .result ≡ firstOf (sendChecks (recordOf (c .before .before .before .before .before .before .before .before .before .before .before .args .t1)) (c .before .before .before .before .before .before .before .before .before .before .before .args .payload .now) (c .before .before .before .before .before .before .before .before .before .before .before .args .lifetime) (c .before .before .before .before .before .before .before .before .before .before .before .args .output .now) (c .before .before .before .before .before .before .before .before .before .before .before .args .buffer .now))
+unfolding broken
+numbered c =
+    let a = c .before .before .before .before .before .before .before .before .before .before .before .args in
+    c .send-number .ensures
+    ∙ ap₂ (λ (b : Bool) (n : ℕ). firstOf (sendChecksOn b (length (a .output .now)) (length (a .buffer .now)) (length (a .payload .now)) n))
+    (c .before .before .broken .ensures) (due (c .before))
+    ∙ ap firstOf (sendChecks-on (recordOf (a .t1)) (a .payload .now) (a .lifetime) (a .output .now) (a .buffer .now))
+
+passed : (c : tie.Else1) → firstOf (sendChecks (recordOf (c .before .before .before .before .before .before .before .before .before .before .before .before .args .t1)) (c .before .before .before .before .before .before .before .before .before .before .before .before .args .payload .now) (c .before .before .before .before .before .before .before .before .before .before .before .before .args .lifetime) (c .before .before .before .before .before .before .before .before .before .before .before .before .args .output .now) (c .before .before .before .before .before .before .before .before .before .before .before .before .args .buffer .now)) ≡ 0
+passed c = sym (numbered (c .before)) ∙ c .if1 .left
+
+checked : (c : tie.Else1) → SendPassed (recordOf (c .before .before .before .before .before .before .before .before .before .before .before .before .args .t1)) (c .before .before .before .before .before .before .before .before .before .before .before .before .args .payload .now) (c .before .before .before .before .before .before .before .before .before .before .before .before .args .lifetime) (c .before .before .before .before .before .before .before .before .before .before .before .before .args .output .now) (c .before .before .before .before .before .before .before .before .before .before .before .before .args .buffer .now)
+checked c = send-passed (recordOf (c .before .before .before .before .before .before .before .before .before .before .before .before .args .t1)) (c .before .before .before .before .before .before .before .before .before .before .before .before .args .payload .now) (c .before .before .before .before .before .before .before .before .before .before .before .before .args .lifetime) (c .before .before .before .before .before .before .before .before .before .before .before .before .args .output .now) (c .before .before .before .before .before .before .before .before .before .before .before .before .args .buffer .now) (passed c)
+
+long : (c : tie.After-settle) → length (c .settle .result .places) ≡ 32
+long c = search needs
+
+-- the frame that was written
+abbrev new-frame : tie.Else1 → List ℕ
+new-frame c = frame 4 (newMessage (recordOf (c .before .before .before .before .before .before .before .before .before .before .before .before .args .t1)) (c .before .before .before .before .before .before .before .before .before .before .before .before .args .payload .now) (c .before .before .before .before .before .before .before .before .before .before .before .before .args .lifetime))
+
+wrote : (c : tie.After-write)
+    → (c .write .result ≡ length (new-frame (c .before .before .before)))
+    × (c .write .last .1 .1 .1 .1 .0 ≡ over (c .before .before .before .before .before .before .before .before .before .before .before .before .before .before .before .args .buffer .now) 0 (new-frame (c .before .before .before)))
 unfolding newMessage
 wrote c =
     let past = c .before .before .before in
-    let s = past .before .before .before .before .before .before .before .before .before .before .before .before .before .before .before in
+    let s = past .before .before .before .before .before .before .before .before .before .before .before .before in
     let a = s .args in
-    let known = past .before .before .before .before .before .before .before .before .before .before .before .before .before .before in
-    let ensured = rw (due (past .before)) at (c .write .ensures) in (
-      ensured .0 ∙ length-written (a .t1) (a .payload .now) (a .lifetime) (a .output .now) (a .buffer .now) (payload-bytes known) (panels s) (passed past),
-      ensured .1 ∙ buffer-written (a .t1) (a .payload .now) (a .lifetime) (a .output .now) (a .buffer .now) (payload-bytes known) (panels s) (passed past),
+    let bytes = payload-bytes (past .before .before .before .before .before .before .before .before .before .before .before) in
+    let ensured = rw (due (past .before .before)) at (c .write .ensures) in (
+      ensured .0 ∙ length-written (a .t1) (a .payload .now) (a .lifetime) (a .output .now) (a .buffer .now) bytes (panels s) (passed past),
+      ensured .1 ∙ buffer-written (a .t1) (a .payload .now) (a .lifetime) (a .output .now) (a .buffer .now) bytes (panels s) (passed past),
     )
 
 -- and the part of the buffer that it occupies
 part : (c : tie.After-write) → take (c .write .result - 0) (c .write .last .1 .1 .1 .1 .0) ≡ new-frame (c .before .before .before)
-part c = rw (wrote c .0, wrote c .1, sub-zero) (take-over (c .before .before .before .before .before .before .before .before .before .before .before .before .before .before .before .before .before .before .args .buffer .now) (new-frame (c .before .before .before)))
+part c = rw (wrote c .0, wrote c .1, sub-zero) (take-over (c .before .before .before .before .before .before .before .before .before .before .before .before .before .before .before .args .buffer .now) (new-frame (c .before .before .before)))
 
 broken-requires : tie.Need-broken-requires
 broken-requires c κs = search needs
 
-unsent-requires : tie.Need-unsent-requires
-unsent-requires c κs = search needs
-
-returns : tie.Need-returns
-returns c = sent-refused _ 26 (λ e. omega arith) _ _ _ _ _ (c .unsent .ensures) (send-26 _ _ _ _ _ (sym (asked (c .before .before)) ∙ c .before .if1 .taken))
-
-unsent-requires-2 : tie.Need-unsent-requires-2
-unsent-requires-2 c κs = search needs
-
-returns-2 : tie.Need-returns-2
-returns-2 c =
-    sent-refused _ 10 (λ e. omega arith) _ _ _ _ _ (c .unsent2 .ensures) (send-10 _ _ _ _ _ (sound (c .before .before)) (c .before .if2 .taken))
-
-unsent-requires-3 : tie.Need-unsent-requires-3
-unsent-requires-3 c κs = search needs
-
-returns-3 : tie.Need-returns-3
-returns-3 c =
-    sent-refused _ 10 (λ e. omega arith) _ _ _ _ _ (c .unsent3 .ensures)
-    (send-10-buffer _ _ _ _ _ (sound (c .before .before .before)) (c .before .before .if2 .left) (c .before .if3 .taken))
-
-unsent-requires-4 : tie.Need-unsent-requires-4
-unsent-requires-4 c κs = search needs
-
-returns-4 : tie.Need-returns-4
-returns-4 c =
-    let fits = c .before .before in
-    sent-refused _ 9 (λ e. omega arith) _ _ _ _ _ (c .unsent4 .ensures)
-    (send-9 _ _ _ _ _ (sound (fits .before .before)) (fits .before .if2 .left) (fits .if3 .left) (c .before .if4 .taken))
-
 send-deadline-requires : tie.Need-send-deadline-requires
 send-deadline-requires c κs = search needs
 
-unsent-requires-5 : tie.Need-unsent-requires-5
-unsent-requires-5 c κs = search needs
+send-number-requires : tie.Need-send-number-requires
+send-number-requires c κs = search needs
 
-returns-5 : tie.Need-returns-5
-returns-5 c =
-    let short = c .before .before .before in
-    sent-refused _ 24 (λ e. omega arith) _ _ _ _ _ (c .unsent5 .ensures)
-    (send-24 _ _ _ _ _ (sound (short .before .before .before)) (short .before .before .if2 .left) (short .before .if3 .left) (short .if4 .left)
-    (omega (arith, due (c .before .before), c .before .if5 .taken)))
+returns : tie.Need-returns
+unfolding refused
+returns c = (refused-promised _ (send _ _ _ _) _ (numbered (c .before)) (c .if1 .taken), λ _. refl)
 
 cast-write : tie.Need-cast-write
-cast-write c = search needs
+cast-write c = omega (arith, due (c .before .before .before), checked (c .before) .deadline)
 
 write-requires : tie.Need-write-requires
 write-requires c κs = search needs
@@ -136,73 +110,65 @@ part-hand-end : tie.Need-part-hand-end
 part-hand-end c =
     let write = c .before .before .before .before .before .before .before in
     let past = write .before .before .before in
-    let s = past .before .before .before .before .before .before .before .before .before .before .before .before .before .before .before in
-    let fits = frame-fits (s .args .t1) _ _ (s .args .output .now) (s .args .buffer .now) (payload-bytes (past .before .before .before .before .before .before .before .before .before .before .before .before .before .before)) (panels s) (passed past) in
+    let s = past .before .before .before .before .before .before .before .before .before .before .before .before in
+    let a = s .args in
+    let fits = frame-fits (a .t1) (a .payload .now) (a .lifetime) (a .output .now) (a .buffer .now) (payload-bytes (past .before .before .before .before .before .before .before .before .before .before .before)) (panels s) (passed past) in
     omega (arith, wrote write .0, fits, write .write .kept .1 .1 .1 .1 .0)
 
 hand-requires : tie.Need-hand-requires
 hand-requires c κs =
     let past = c .before .before .before .before .before .before .before .before .before .before .before .before in
-    let s = past .before .before .before .before .before .before .before .before .before .before .before .before .before .before .before in
-    let reads = frame-reads (s .args .t1) _ _ (s .args .output .now) (s .args .buffer .now) (payload-bytes (past .before .before .before .before .before .before .before .before .before .before .before .before .before .before)) (panels s) (passed past) in
-    (rw (part (c .before .before .before .before .before .before .before .before .before)) reads, rw (c .before .before .before .before .before .start .ensures) (omega (arith, past .before .before .before .before .if2 .left)))
+    let s = past .before .before .before .before .before .before .before .before .before .before .before .before in
+    let a = s .args in
+    let reads = frame-reads (a .t1) (a .payload .now) (a .lifetime) (a .output .now) (a .buffer .now) (payload-bytes (past .before .before .before .before .before .before .before .before .before .before .before)) (panels s) (passed past) in
+    (rw (part (c .before .before .before .before .before .before .before .before .before)) reads, rw (c .before .before .before .before .before .start .ensures) (omega (arith, checked past .output-room)))
 
 settle-requires : tie.Need-settle-requires
 settle-requires c κs =
     let past = c .before .before .before .before .before .before .before .before .before .before .before .before .before .before .before .before .before .before .before .before .before in
     let hand = c .before .before .before .before .before .before .before .before .hand in
-    let start = c .before .before .before .before .before .before .before .before .before .before .before .before .before .before .start in
-    let whole = kept _ (sound (past .before .before .before .before .before)) in
-    rw (hand .ensures .0, start .ensures) (
+    let whole = valid-kept _ (checked past .valid) in
+    rw (hand .ensures .0, c .before .before .before .before .before .before .before .before .before .before .before .before .before .before .start .ensures) (
       (search needs, listed-order _ _ whole),
-      omega (arith, whole .few, past .before .before .before .before .if2 .left, hand .kept .1 .1 .1 .1 .0),
+      omega (arith, whole .few, checked past .output-room, hand .kept .1 .1 .1 .1 .0),
     )
 
-put-back-requires : tie.Need-put-back-requires
-put-back-requires c κs = search needs
+gather-requires : tie.Need-gather-requires
+gather-requires c κs = search needs
 
 same-length : tie.Need-same-length
 same-length c = search needs
 
 same-length-2 : tie.Need-same-length-2
-same-length-2 c = c .before .before .before .before .before .before .before .before .before .before .before .before .before .before .before .before .before .before .before .before .before .before .write .kept .1 .1 .1 .1 .0
+same-length-2 c = c .before .before .before .before .before .before .before .before .before .before .before .before .before .before .before .before .before .before .before .before .before .before .before .before .before .write .kept .1 .1 .1 .1 .0
 
-returns-6 : tie.Need-returns-6
+returns-2 : tie.Need-returns-2
 unfolding none64
-returns-6 c =
-    let past = c .before .before .before .before .before .before .before .before .before .before .before .before .before .before .before .before .before .before .before .before .before .before .before .before .before in
-    let s = past .before .before .before .before .before .before .before .before .before .before .before .before .before .before .before in
+returns-2 c =
+    let past = c .before .before .before .before .before .before .before .before .before .before .before .before .before .before .before .before .before .before .before .before .before .before .before .before .before .before .before .before in
+    let s = past .before .before .before .before .before .before .before .before .before .before .before .before in
     let a = s .args in
-    let hand = c .before .before .before .before .before .before .before .before .before .before .before .before .hand in
-    let start = c .before .before .before .before .before .before .before .before .before .before .before .before .before .before .before .before .before .before .start in
-    let settled = c .before .before .before .settle in
-    let write = c .before .before .before .before .before .before .before .before .before .before .before .before .before .before .before .before .before .before .before .before .before .before in
-    let bytes = payload-bytes (past .before .before .before .before .before .before .before .before .before .before .before .before .before .before) in
-    let whole = kept (a .t1) (sound (past .before .before .before .before .before)) in
+    let bytes = payload-bytes (past .before .before .before .before .before .before .before .before .before .before .before) in
+    let write = c .before .before .before .before .before .before .before .before .before .before .before .before .before .before .before .before .before .before .before .before .before .before .before .before .before in
+    let start = c .before .before .before .before .before .before .before .before .before .before .before .before .before .before .before .before .before .before .before .before .before .start in
+    let hand = c .before .before .before .before .before .before .before .before .before .before .before .before .before .before .before .hand in
+    let settled = c .before .before .before .before .before .before .settle in
     let begun = stage-handed (a .t1) (a .payload .now) (a .lifetime) (a .output .now) (a .buffer .now) bytes (panels s) (passed past) _ (part write)
     (start .result) (hand .result) (hand .last .1 .0) (hand .last .1 .1 .0) (hand .last .1 .1 .1 .1 .0)
     (start .ensures) (hand .ensures .0) (hand .ensures .1) (hand .ensures .2) (hand .ensures .3) in
     rw (wrote write .0, wrote write .1)
-    (sent-done (a .t1) (a .payload .now) (a .lifetime) (a .output .now) (a .buffer .now) bytes (panels s) (passed past) whole
-    (stage (settled .result) (settled .last .1 .0) (settled .last .1 .1 .0) (settled .last .1 .1 .1 .1 .0)) (c .put-back .result)
-    (rw begun at (settled .ensures)) (c .put-back .ensures))
+    (sent-done (a .t1) (a .payload .now) (a .lifetime) (a .output .now) (a .buffer .now) bytes (panels s) (passed past) (valid-kept (a .t1) (checked past .valid))
+    (stage (settled .result) (settled .last .1 .0) (settled .last .1 .1 .0) (settled .last .1 .1 .1 .1 .0)) _ (rw begun at (settled .ensures))
+    (gathered-record (a .t1 .slots) (settled .result) _ _ (settled .last .1 .1 .1 .1 .0) _ (omega (arith, long (c .before .before .before .before .before .before), settled .ensures .listed .few)) (c .gather .ensures)))
 
 pub panel-send-spec : {M : Type 1} → statement M
 panel-send-spec =
     tie.close
     (tie.spec
     broken-requires
-    unsent-requires
-    returns
-    unsent-requires-2
-    returns-2
-    unsent-requires-3
-    returns-3
-    unsent-requires-4
-    returns-4
     send-deadline-requires
-    unsent-requires-5
-    returns-5
+    send-number-requires
+    returns
     cast-write
     write-requires
     start-requires
@@ -211,7 +177,7 @@ panel-send-spec =
     part-hand-end
     hand-requires
     settle-requires
-    put-back-requires
+    gather-requires
     same-length
     same-length-2
-    returns-6)
+    returns-2)

@@ -50,30 +50,30 @@ pub struct Panel {
 // was given. count is that of the log records in the output, length that of the frame in its buffer.
 #[repr(C)]
 pub struct Fresh {
-    pub number: u8,
     pub panel: Panel,
+    pub number: u8,
 }
 
 #[repr(C)]
 pub struct Sent {
-    pub number: u8,
+    pub panel: Panel,
     pub count: usize,
     pub length: usize,
-    pub panel: Panel,
+    pub number: u8,
 }
 
 #[repr(C)]
 pub struct Received {
-    pub number: u8,
-    pub count: usize,
     pub panel: Panel,
+    pub count: usize,
+    pub number: u8,
 }
 
 #[repr(C)]
 pub struct Clocked {
-    pub number: u8,
-    pub count: usize,
     pub panel: Panel,
+    pub count: usize,
+    pub number: u8,
 }
 
 // The panel of that number, fresh.
@@ -298,7 +298,7 @@ fn take(
 // Send.
 #[no_mangle]
 pub extern "C" fn panel_send<'a, 'b, 'c>(
-    p: Panel,
+    mut p: Panel,
     payload: &'a [u8],
     lifetime: u16,
     output: &'b mut [u8],
@@ -327,25 +327,28 @@ pub extern "C" fn panel_send<'a, 'b, 'c>(
     let handed = hand(begun, &mut marks, &mut barrier, &buffer[0..length], output);
     let settled = settle(handed, &mut marks, &mut barrier, &p.slots, output);
     let places = settled.places;
-    let mut q = p;
-    gather(&mut q.slots, &places, settled.waiting);
-    q.own = settled.own;
-    q.time = settled.time;
-    q.high = settled.high;
-    q.count = settled.waiting;
-    q.marks = marks;
-    q.barrier = barrier;
+    gather(&mut p.slots, &places, settled.waiting);
+    p.own = settled.own;
+    p.time = settled.time;
+    p.high = settled.high;
+    p.count = settled.waiting;
+    p.marks = marks;
+    p.barrier = barrier;
     Sent {
         number: 0,
         count: settled.handed,
         length,
-        panel: q,
+        panel: p,
     }
 }
 
 // Receive.
 #[no_mangle]
-pub extern "C" fn panel_receive<'a, 'b>(p: Panel, frame: &'a [u8], output: &'b mut [u8]) -> Received
+pub extern "C" fn panel_receive<'a, 'b>(
+    mut p: Panel,
+    frame: &'a [u8],
+    output: &'b mut [u8],
+) -> Received
     ensures { λ r. ⌜ Promised (recordOf p) (receive (now (frame .entry)) (now (output .entry))) (receivedResult r (now (output .exit))) ⌝ }
     ensures { λ r. ⌜ GivenBack (r .number) p (r .panel) ⌝ }
 {
@@ -364,27 +367,26 @@ pub extern "C" fn panel_receive<'a, 'b>(p: Panel, frame: &'a [u8], output: &'b m
     let mut marks = p.marks;
     let mut barrier = p.barrier;
     let begun = start(p.own, p.time, p.high, p.count);
-    let mut q = p;
-    let taken = take(begun, &mut marks, &mut barrier, &mut q.slots, frame, output);
-    let settled = settle(taken, &mut marks, &mut barrier, &q.slots, output);
+    let taken = take(begun, &mut marks, &mut barrier, &mut p.slots, frame, output);
+    let settled = settle(taken, &mut marks, &mut barrier, &p.slots, output);
     let places = settled.places;
-    gather(&mut q.slots, &places, settled.waiting);
-    q.own = settled.own;
-    q.time = settled.time;
-    q.high = settled.high;
-    q.count = settled.waiting;
-    q.marks = marks;
-    q.barrier = barrier;
+    gather(&mut p.slots, &places, settled.waiting);
+    p.own = settled.own;
+    p.time = settled.time;
+    p.high = settled.high;
+    p.count = settled.waiting;
+    p.marks = marks;
+    p.barrier = barrier;
     Received {
         number: 0,
         count: settled.handed,
-        panel: q,
+        panel: p,
     }
 }
 
 // Clock.
 #[no_mangle]
-pub extern "C" fn panel_clock(p: Panel, time: u32, output: &mut [u8]) -> Clocked
+pub extern "C" fn panel_clock(mut p: Panel, time: u32, output: &mut [u8]) -> Clocked
     ensures { λ r. ⌜ Promised (recordOf p) (clock time (now (output .entry))) (clockedResult r (now (output .exit))) ⌝ }
     ensures { λ r. ⌜ GivenBack (r .number) p (r .panel) ⌝ }
 {
@@ -411,17 +413,16 @@ pub extern "C" fn panel_clock(p: Panel, time: u32, output: &mut [u8]) -> Clocked
     };
     let settled = settle(begun, &mut marks, &mut barrier, &p.slots, output);
     let places = settled.places;
-    let mut q = p;
-    gather(&mut q.slots, &places, settled.waiting);
-    q.own = settled.own;
-    q.time = settled.time;
-    q.high = settled.high;
-    q.count = settled.waiting;
-    q.marks = marks;
-    q.barrier = barrier;
+    gather(&mut p.slots, &places, settled.waiting);
+    p.own = settled.own;
+    p.time = settled.time;
+    p.high = settled.high;
+    p.count = settled.waiting;
+    p.marks = marks;
+    p.barrier = barrier;
     Clocked {
         number: 0,
         count: settled.handed,
-        panel: q,
+        panel: p,
     }
 }

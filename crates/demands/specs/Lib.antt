@@ -1,0 +1,2 @@
+-- Lists of calls of the module itself.
+pub mod Runs

@@ -4,8 +4,6 @@ use mathlib.Core.Bool.{Bool, true, false, cond}
 use mathlib.Core.List.{List, [], _∷_, map}
 use Prim.Native.Nat.{ℕ}
 use lib.Dec.{eqb}
-use Rattle.rules.specs.Panel.{Panel as Record}
-use Rattle.rules.specs.Results.{Promised}
 use Rattle.rules.specs.Lists.{recordAt, AllPromised}
 use Rattle.panel.specs.declared.Panel.{Panel}
 use Rattle.panel.specs.Record.{recordOf}

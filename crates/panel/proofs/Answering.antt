@@ -1,7 +1,7 @@
 -- The answers of the calls: turned down, or done. Assumes nothing.
 use mathlib.Core.Path.{_≡_, refl, sym, ap, _∙_}
 use mathlib.Core.List.{List, [], _∷_, _++_, append-assoc}
-use Prim.Native.Nat.{ℕ, _+_, _*_, _≤_}
+use Prim.Native.Nat.{ℕ, _+_, _*_}
 use native.Mathlib.Omega.{arith}
 use lib.ListN.{length, length-append}
 use Rattle.numbers.specs.Buffer.{over}
@@ -11,9 +11,10 @@ use Rattle.frame.specs.Refusal.{firstOf}
 use Rattle.rules.specs.Sizes.{logRecordLength}
 use Rattle.rules.specs.Panel.{Panel as Record}
 use Rattle.rules.specs.Handing.{logRecords}
-use Rattle.rules.specs.Settling.{Settled, settle, withWaiting}
+use Rattle.rules.specs.Settling.{Settled, settle}
 use Rattle.rules.specs.Results.{Call, checksOf, effectOf, frameOf, outputOf, bufferOf, refused, done, unless, defined, Promised}
 use Rattle.rules.proofs.Checks.{Valid, true-eachReadable}
+use Rattle.rules.proofs.Settling.{settle-settles}
 use Rattle.rules.proofs.Results.{defined-number}
 use Rattle.rules.proofs.Theorems.{refusal-unchanged}
 use Rattle.slots.specs.Slots.{Kept, held, firstSlots}
@@ -42,11 +43,15 @@ valid-kept p valid =
     (true-eachReadable (held (p .slots) (firstSlots (p .count))) (valid .waiting))
 
 -- the record given back: the frames in the slots listed have moved up to the first slots
-pub gathered-record : (slots : List ℕ) (s : Settling) (marks barrier output after : List ℕ) → s .waiting ≤ length (s .places)
-    → Gathered slots (s .places) (s .waiting) after
-    → recordWith (s .own) (s .time) (s .high) marks barrier after (s .waiting) ≡ panelAt slots (stage s marks barrier output)
-gathered-record slots s marks barrier output after room gathered =
-    ap (λ (ms : List Message). withWaiting (panelAt slots (stage s marks barrier output)) ms) (held-gathered slots (s .places) (s .waiting) after room gathered)
+pub gathered-record : (slots : List ℕ) (begun : Stage) (s : Settling) (marks barrier output after : List ℕ)
+    → Settles slots begun (stage s marks barrier output) → length (s .places) ≡ 32 → Gathered slots (s .places) (s .waiting) after
+    → (own time : ℕ) → begun .left .own ≡ own → begun .left .time ≡ time
+    → recordWith own time (s .high) marks barrier after (s .waiting) ≡ panelAt slots (stage s marks barrier output)
+gathered-record slots begun s marks barrier output after settles long gathered own time same-own same-time =
+    let settled = settle-settles (panelAt slots begun) in
+    let kept-own : s .own ≡ own = ap (λ (p : Record). p .own) (settles .panel) ∙ settled .own ∙ same-own in
+    let kept-time : s .time ≡ time = ap (λ (p : Record). p .time) (settles .panel) ∙ settled .time ∙ same-time in
+    rw (← kept-own, ← kept-time, held-gathered slots (s .places) (s .waiting) after (omega (arith, settles .listed .few)) gathered)
 
 logRecords-append : (ms more : List Message) → logRecords (ms ++ more) ≡ logRecords ms ++ logRecords more
 unfolding logRecords

@@ -4,6 +4,6 @@ pub mod MessageChecks
 pub mod Checking
 pub mod Taking
 pub mod Answering
-pub mod Clocking
-pub mod Receiving
-pub mod Sending
+pub mod ClockDone
+pub mod ReceiveDone
+pub mod SendDone

@@ -45,6 +45,23 @@ receiving-taking p m = go (ready p m)
     go true = refl
     go false = refl
 
+-- taking keeps the own number and the time
+taking-kept : (p : Record) (m : Message) → (taking p m .own ≡ p .own) × (taking p m .time ≡ p .time)
+unfolding hand
+taking-kept p m = go (ready p m)
+  where
+    go : (b : Bool) → (cond b (hand p m) (withWaiting p (p .waiting ++ (m ∷ []))) .own ≡ p .own)
+        × (cond b (hand p m) (withWaiting p (p .waiting ++ (m ∷ []))) .time ≡ p .time)
+    go true = (refl, refl)
+    go false = (refl, refl)
+
+module _ {m : Message} {slots : List ℕ} {before : Stage} {after : List ℕ} {begun : Stage} (taken : Taken m slots before after begun) where
+  pub taken-own : begun .left .own ≡ before .left .own
+  taken-own = ap (λ (p : Record). p .own) (taken .panel) ∙ taking-kept (panelAt slots before) m .0
+
+  pub taken-time : begun .left .time ≡ before .left .time
+  taken-time = ap (λ (p : Record). p .time) (taken .panel) ∙ taking-kept (panelAt slots before) m .1
+
 -- the log record of a message that was handed at once, or none
 length-atOnce : (p : Record) (bytes : List ℕ) → Reads bytes
     → length (logRecords (handedAtOnce p (messageIn width bytes))) ≡ length (handedAtOnce p (messageIn width bytes)) * logRecordLength

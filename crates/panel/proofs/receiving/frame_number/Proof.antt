@@ -1,9 +1,9 @@
--- `panel::frame_number` meets its contract: each return is the first check that applies. Assumes nothing.
+-- `panel::receiving::frame_number` meets its contract: each return is the first check that applies. Assumes nothing.
 use borrow.Author.Needs.{needs}
 use borrow.Author.Tests.{lt-ltb, le-ltb}
 use Rattle.frame.specs.Refusal.{firstOf}
-use Rattle.panel.proofs.frame_number.Statement.{statement}
-use Rattle.panel.proofs.frame_number.Tie as tie
+use Rattle.panel.proofs.receiving.frame_number.Statement.{statement}
+use Rattle.panel.proofs.receiving.frame_number.Tie as tie
 
 returns : tie.Need-returns
 unfolding firstOf

@@ -1,4 +1,4 @@
--- `panel::take` meets its contract: a ready message is handed, any other is put behind those that wait. Assumes nothing.
+-- `panel::receiving::take` meets its contract: a ready message is handed, any other is put behind those that wait. Assumes nothing.
 use mathlib.Core.Path.{_≡_, sym, _∙_}
 use Prim.Native.Nat.{_<_}
 use borrow.Author.Needs.{needs}
@@ -7,8 +7,8 @@ use Rattle.frame.specs.Reading.{messageIn}
 use Rattle.rules.specs.Panel.{ready}
 use Rattle.settling.specs.Record.{asking}
 use Rattle.panel.proofs.Taking.{room-unready, length-reads, taken-handed, taken-waiting}
-use Rattle.panel.proofs.take.Statement.{statement}
-use Rattle.panel.proofs.take.Tie as tie
+use Rattle.panel.proofs.receiving.take.Statement.{statement}
+use Rattle.panel.proofs.receiving.take.Tie as tie
 
 abbrev start : tie.After-ready → tie.Start
 start c = c .before .before .before .before

@@ -1,4 +1,4 @@
--- `panel::send_deadline` meets its contract: the larger of the two sums is the definition's. Assumes nothing.
+-- `panel::sending::send_deadline` meets its contract: the larger of the two sums is the definition's. Assumes nothing.
 use mathlib.Core.Path.{_≡_, sym, ap, _∙_}
 use mathlib.Core.Logic.{⊎-elim}
 use Prim.Native.Nat.{ℕ, _+_}
@@ -7,8 +7,8 @@ use native.Mathlib.Omega.{arith}
 use borrow.Author.Needs.{needs}
 use Rattle.rules.specs.Calls.{lifetimeOf, sendDeadline}
 use Rattle.panel.proofs.Refusing.{lifetimeOf-zero, lifetimeOf-given}
-use Rattle.panel.proofs.send_deadline.Statement.{statement}
-use Rattle.panel.proofs.send_deadline.Tie as tie
+use Rattle.panel.proofs.sending.send_deadline.Statement.{statement}
+use Rattle.panel.proofs.sending.send_deadline.Tie as tie
 
 add-by-time : tie.Need-add-by-time
 add-by-time c = search needs

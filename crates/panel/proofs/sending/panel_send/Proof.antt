@@ -1,4 +1,4 @@
--- `panel::panel_send` meets its contract: a refusal is the first check that applies, and the rest is document 01's send. Assumes nothing.
+-- `panel::sending::panel_send` meets its contract: a refusal is the first check that applies, and the rest is document 01's send. Assumes nothing.
 use mathlib.Core.Path.{_≡_, refl, sym, ap, ap₂, _∙_}
 use mathlib.Core.Bool.{Bool}
 use mathlib.Core.List.{List}
@@ -22,9 +22,9 @@ use Rattle.settling.specs.Record.{stage}
 use Rattle.panel.specs.Record.{recordOf, sendChecksOn}
 use Rattle.panel.proofs.Checking.{sendChecks-on}
 use Rattle.panel.proofs.Answering.{refused-promised, valid-kept, gathered-record}
-use Rattle.panel.proofs.Sending.{frame-fits, length-written, buffer-written, frame-reads, stage-handed, sent-done}
-use Rattle.panel.proofs.panel_send.Statement.{statement}
-use Rattle.panel.proofs.panel_send.Tie as tie
+use Rattle.panel.proofs.SendDone.{frame-fits, length-written, buffer-written, frame-reads, stage-handed, sent-done}
+use Rattle.panel.proofs.sending.panel_send.Statement.{statement}
+use Rattle.panel.proofs.sending.panel_send.Tie as tie
 
 payload-bytes : (c : tie.After-shared-slice-known) → Bytes (c .before .args .payload .now)
 payload-bytes c = λ i. omega (arith, c .shared-slice-known .given i)
@@ -159,7 +159,7 @@ returns-2 c =
     rw (wrote write .0, wrote write .1)
     (sent-done (a .t1) (a .payload .now) (a .lifetime) (a .output .now) (a .buffer .now) bytes (panels s) (passed past) (valid-kept (a .t1) (checked past .valid))
     (stage (settled .result) (settled .last .1 .0) (settled .last .1 .1 .0) (settled .last .1 .1 .1 .1 .0)) _ (rw begun at (settled .ensures))
-    (gathered-record (a .t1 .slots) (settled .result) _ _ (settled .last .1 .1 .1 .1 .0) _ (omega (arith, long (c .before .before .before .before .before .before), settled .ensures .listed .few)) (c .gather .ensures)))
+    (gathered-record (a .t1 .slots) _ (settled .result) _ _ _ _ (rw begun at (settled .ensures)) (long (c .before .before .before .before .before .before)) (c .gather .ensures) _ _ refl refl))
 
 pub panel-send-spec : {M : Type 1} → statement M
 panel-send-spec =

@@ -1,7 +1,7 @@
--- `panel::start` meets its contract. Assumes nothing.
+-- `panel::record::start` meets its contract. Assumes nothing.
 use borrow.Author.Needs.{needs}
-use Rattle.panel.proofs.start.Statement.{statement}
-use Rattle.panel.proofs.start.Tie as tie
+use Rattle.panel.proofs.record.start.Statement.{statement}
+use Rattle.panel.proofs.record.start.Tie as tie
 
 in-order-requires : tie.Need-in-order-requires
 in-order-requires c κs = search needs

@@ -1,8 +1,8 @@
--- `panel::clock_number` meets its contract: each return is the first check that applies. Assumes nothing.
+-- `panel::clocking::clock_number` meets its contract: each return is the first check that applies. Assumes nothing.
 use borrow.Author.Tests.{lt-ltb, le-ltb}
 use Rattle.frame.specs.Refusal.{firstOf}
-use Rattle.panel.proofs.clock_number.Statement.{statement}
-use Rattle.panel.proofs.clock_number.Tie as tie
+use Rattle.panel.proofs.clocking.clock_number.Statement.{statement}
+use Rattle.panel.proofs.clocking.clock_number.Tie as tie
 
 returns : tie.Need-returns
 unfolding firstOf

@@ -1,4 +1,4 @@
--- `panel::broken` meets its contract: its tests are those of 26, in their order. Assumes nothing.
+-- `panel::record::broken` meets its contract: its tests are those of 26, in their order. Assumes nothing.
 use mathlib.Core.Path.{sym, ap, _∙_}
 use mathlib.Core.Bool.{not}
 use native.Mathlib.Omega.{arith}
@@ -8,8 +8,8 @@ use Rattle.rules.specs.Panel.{Panel as Record}
 use Rattle.slots.proofs.Held.{length-firstSlots}
 use Rattle.panel.specs.Record.{recordWith}
 use Rattle.panel.proofs.Refusing.{broken-own, broken-marks, broken-barrier, broken-count, broken-waiting}
-use Rattle.panel.proofs.broken.Statement.{statement}
-use Rattle.panel.proofs.broken.Tie as tie
+use Rattle.panel.proofs.record.broken.Statement.{statement}
+use Rattle.panel.proofs.record.broken.Tie as tie
 
 -- the record that the arguments are
 abbrev given : tie.Start → Record

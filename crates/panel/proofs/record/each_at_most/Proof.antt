@@ -1,4 +1,4 @@
--- `panel::each_at_most` meets its contract: the numbers from i on are at most the limit. Assumes nothing.
+-- `panel::record::each_at_most` meets its contract: the numbers from i on are at most the limit. Assumes nothing.
 use mathlib.Core.Path.{_≡_, sym, ap, _∙_}
 use mathlib.Core.Bool.{true}
 use Prim.Native.Nat.{ℕ, _+_, _-_, _≤_}
@@ -8,8 +8,8 @@ use denote.Ref.{now}
 use lib.ListN.{drop}
 use Rattle.frame.specs.Readable.{eachBelow}
 use Rattle.frame.proofs.EachNumber.{eachBelow-none, eachBelow-next, eachBelow-not}
-use Rattle.panel.proofs.each_at_most.Statement.{statement}
-use Rattle.panel.proofs.each_at_most.Tie as tie
+use Rattle.panel.proofs.record.each_at_most.Statement.{statement}
+use Rattle.panel.proofs.record.each_at_most.Tie as tie
 
 abbrev Inv-loop : tie.InvT-loop
 Inv-loop numbers limit i₀ i = (i ≤ 64) × (eachBelow (limit + 1) (drop i numbers) ≡ true)

@@ -1,4 +1,4 @@
--- `panel::panel_clock` meets its contract: a refusal is the first check that applies, and the rest is document 01's clock. Assumes nothing.
+-- `panel::clocking::panel_clock` meets its contract: a refusal is the first check that applies, and the rest is document 01's clock. Assumes nothing.
 use mathlib.Core.Path.{_≡_, refl, sym, ap, _∙_}
 use mathlib.Core.Bool.{Bool}
 use native.Mathlib.Omega.{arith}
@@ -12,9 +12,9 @@ use Rattle.settling.specs.Record.{stage}
 use Rattle.panel.specs.Record.{recordOf, clockChecksOn}
 use Rattle.panel.proofs.Checking.{clockChecks-on}
 use Rattle.panel.proofs.Answering.{refused-promised, valid-kept, gathered-record}
-use Rattle.panel.proofs.Clocking.{clocked-done}
-use Rattle.panel.proofs.panel_clock.Statement.{statement}
-use Rattle.panel.proofs.panel_clock.Tie as tie
+use Rattle.panel.proofs.ClockDone.{clocked-done}
+use Rattle.panel.proofs.clocking.panel_clock.Statement.{statement}
+use Rattle.panel.proofs.clocking.panel_clock.Tie as tie
 
 -- the number is that of the first check that applies
 numbered : (c : tie.After-clock-number)
@@ -66,7 +66,7 @@ returns-2 c =
     let settled = c .before .before .before .before .before .before .settle in
     clocked-done (a .t1) (a .time) (a .output .now) _ (c .before .before .before .before .before .before .before .before .before .before .before .before .before .before .before .before .alive .ensures)
     (stage (settled .result) (settled .last .1 .0) (settled .last .1 .1 .0) (settled .last .1 .1 .1 .1 .0)) _ (passed past) (settled .ensures)
-    (gathered-record (a .t1 .slots) (settled .result) _ _ (settled .last .1 .1 .1 .1 .0) _ (omega (arith, long (c .before .before .before .before .before .before), settled .ensures .listed .few)) (c .gather .ensures))
+    (gathered-record (a .t1 .slots) _ (settled .result) _ _ _ _ (settled .ensures) (long (c .before .before .before .before .before .before)) (c .gather .ensures) _ _ refl refl)
 
 pub panel-clock-spec : {M : Type 1} → statement M
 panel-clock-spec =

@@ -1,4 +1,4 @@
--- `panel::panel_receive` meets its contract: a refusal is the first check that applies, and the rest is document 01's receive. Assumes nothing.
+-- `panel::receiving::panel_receive` meets its contract: a refusal is the first check that applies, and the rest is document 01's receive. Assumes nothing.
 use mathlib.Core.Path.{_≡_, refl, sym, ap, _∙_}
 use mathlib.Core.Bool.{Bool}
 use mathlib.Core.Logic.{inl, inr, ⊎-elim}
@@ -15,9 +15,9 @@ use Rattle.settling.specs.Record.{stage}
 use Rattle.panel.specs.Record.{recordOf, frameChecksOn}
 use Rattle.panel.proofs.Checking.{frame-refused, frame-through, through-reads, through-valid}
 use Rattle.panel.proofs.Answering.{refused-promised, valid-kept, gathered-record}
-use Rattle.panel.proofs.Receiving.{panel-started, room, received-done}
-use Rattle.panel.proofs.panel_receive.Statement.{statement}
-use Rattle.panel.proofs.panel_receive.Tie as tie
+use Rattle.panel.proofs.ReceiveDone.{panel-started, taken-own, taken-time, room, received-done}
+use Rattle.panel.proofs.receiving.panel_receive.Statement.{statement}
+use Rattle.panel.proofs.receiving.panel_receive.Tie as tie
 
 -- the number is that of the first check that applies
 framed : (c : tie.After-frame-number)
@@ -108,7 +108,7 @@ returns-2 c =
     let taken = rw (c .before .before .before .before .before .before .before .before .before .before .before .before .before .before .before .before .before .before .before .before .start .ensures) at (c .before .before .before .before .before .before .before .before .before .before .before .before .before .before .before .take .ensures) in
     received-done (a .t1) (a .frame .now) (a .output .now) (valid-kept (a .t1) (checked past .valid)) (checked past .read) _ _
     (stage (settled .result) (settled .last .1 .0) (settled .last .1 .1 .0) (settled .last .1 .1 .1 .1 .0)) taken (settled .ensures) _ (passed past)
-    (gathered-record _ (settled .result) _ _ (settled .last .1 .1 .1 .1 .0) _ (omega (arith, long (c .before .before .before .before .before .before), settled .ensures .listed .few)) (c .gather .ensures))
+    (gathered-record _ _ (settled .result) _ _ _ _ (settled .ensures) (long (c .before .before .before .before .before .before)) (c .gather .ensures) _ _ (taken-own taken) (taken-time taken))
 
 pub panel-receive-spec : {M : Type 1} → statement M
 panel-receive-spec =

@@ -1,0 +1,143 @@
+// Receive.
+use super::Panel;
+use super::Received;
+use super::record::broken;
+use super::record::start;
+use frame::frame_check;
+use settling::Settling;
+use settling::hand;
+use settling::ready;
+use settling::settle;
+use slots::deadline;
+use slots::gather;
+use slots::is_waiting;
+use slots::put_frame;
+use slots::source;
+ghost use mathlib.Core.Path.{_≡_};
+ghost use mathlib.Core.Bool.{true};
+ghost use mathlib.Core.Logic.{_⊎_};
+ghost use mathlib.Core.List.{[]};
+ghost use Prim.Native.Nat.{_+_, _*_, _≤_, _<_};
+ghost use lib.ListN.{length};
+ghost use Rattle.frame.specs.Refusal.{firstOf};
+ghost use Rattle.frame.specs.Reading.{messageIn};
+ghost use Rattle.rules.specs.Panel.{ready as isReady};
+ghost use Rattle.rules.specs.Refusals.{messageChecks};
+ghost use Rattle.rules.specs.Results.{Promised, receive};
+ghost use Rattle.slots.specs.Slots.{Reads, Slots, Kept, firstSlots};
+ghost use Rattle.settling.specs.Record.{stage, panelAt};
+ghost use Rattle.panel.specs.Record.{recordWith, recordOf, receivedResult, GivenBack, frameChecksOn, Taken};
+
+// The number of the first check that turns down a frame before its message is looked at, or 0: 26, 10, 1 to 8.
+fn frame_number(broken: bool, output: usize, frame: &[u8]) -> u8
+    ensures { λ r. ⌜ r ≡ firstOf (frameChecksOn broken output (now (frame .entry))) ⌝ }
+{
+    if broken {
+        return 26;
+    }
+    if output < 1254 {
+        return 10;
+    }
+    frame_check(frame)
+}
+
+// The number of the first check that turns down a message that was read, or 0: 20, 21, 22, 23.
+fn message_number<'a, 'b>(
+    own: u8,
+    time: u32,
+    count: usize,
+    marks: &'a [u32; 64],
+    slots: &'a [u8],
+    frame: &'b [u8],
+) -> u8
+    requires { ⌜ Reads (now frame) × Slots (now slots) × Kept (now slots) count ⌝ }
+    ensures { λ r. ⌜ r ≡ firstOf (messageChecks (recordWith own time 0 (now (marks .entry)) [] (now (slots .entry)) count)
+        (messageIn 4 (now (frame .entry)))) ⌝ }
+{
+    let from = source(frame);
+    let due = deadline(frame);
+    if from == own {
+        return 20;
+    }
+    if due < time {
+        return 21;
+    }
+    if due <= marks[from as usize] {
+        return 22;
+    }
+    if is_waiting(frame, slots, count) {
+        return 22;
+    }
+    if count < 32 {
+        return 0;
+    }
+    if ready(frame, marks, time) {
+        return 0;
+    }
+    23
+}
+
+// Takes the message of a readable frame: a ready one is handed without entering the list, any other
+// goes to its end.
+fn take(
+    s: Settling,
+    marks: &mut [u32; 64],
+    barrier: &mut [u32; 64],
+    slots: &mut [u8; 9888],
+    frame: &[u8],
+    output: &mut [u8],
+) -> Settling
+    requires { ⌜ Reads (now frame) × Slots (now slots) × Kept (now slots) (s .waiting) × (s .places ≡ firstSlots 32) ⌝ }
+    requires { ⌜ ((s .waiting < 32) ⊎ (isReady (panelAt (now slots) (stage s (now marks) (now barrier) (now output))) (messageIn 4 (now frame)) ≡ true))
+        × (s .handed * 38 + 38 ≤ length (now output)) ⌝ }
+    ensures { λ r. ⌜ Taken (messageIn 4 (now (frame .entry))) (now (slots .entry)) (stage s (now (marks .entry)) (now (barrier .entry)) (now (output .entry)))
+        (now (slots .exit)) (stage r (now (marks .exit)) (now (barrier .exit)) (now (output .exit))) ⌝ }
+{
+    if ready(frame, marks, s.time) {
+        return hand(s, marks, barrier, frame, output);
+    }
+    put_frame(slots, s.waiting, frame);
+    let mut rest = s;
+    rest.waiting += 1;
+    rest
+}
+
+// A frame is received: the log records stand in the output.
+#[no_mangle]
+pub extern "C" fn panel_receive<'a, 'b>(
+    mut p: Panel,
+    frame: &'a [u8],
+    output: &'b mut [u8],
+) -> Received
+    ensures { λ r. ⌜ Promised (recordOf p) (receive (now (frame .entry)) (now (output .entry))) (receivedResult r (now (output .exit))) ⌝ }
+    ensures { λ r. ⌜ GivenBack (r .number) p (r .panel) ⌝ }
+{
+    let broken = broken(p.own, p.high, p.count, &p.marks, &p.barrier, &p.slots);
+    let mut number = frame_number(broken, output.len(), frame);
+    if number == 0 {
+        number = message_number(p.own, p.time, p.count, &p.marks, &p.slots, frame);
+    }
+    if number != 0 {
+        return Received {
+            number,
+            count: 0,
+            panel: p,
+        };
+    }
+    let mut marks = p.marks;
+    let mut barrier = p.barrier;
+    let begun = start(p.own, p.time, p.high, p.count);
+    let taken = take(begun, &mut marks, &mut barrier, &mut p.slots, frame, output);
+    let settled = settle(taken, &mut marks, &mut barrier, &p.slots, output);
+    let places = settled.places;
+    gather(&mut p.slots, &places, settled.waiting);
+    p.high = settled.high;
+    p.count = settled.waiting;
+    p.marks = marks;
+    p.barrier = barrier;
+    Received {
+        number: 0,
+        count: settled.handed,
+        panel: p,
+    }
+}

@@ -1,0 +1,97 @@
+// Send.
+use super::Panel;
+use super::Sent;
+use super::record::broken;
+use super::record::start;
+use frame::write;
+use settling::hand;
+use settling::settle;
+use slots::gather;
+ghost use mathlib.Core.Path.{_≡_};
+ghost use mathlib.Core.List.{[]};
+ghost use Rattle.frame.specs.Refusal.{firstOf};
+ghost use Rattle.rules.specs.Calls.{sendDeadline};
+ghost use Rattle.rules.specs.Results.{Promised, send};
+ghost use Rattle.panel.specs.Record.{recordWith, recordOf, sentResult, GivenBack, sendChecksOn};
+
+// The larger of time + lifetime and high + 1; lifetime 0 means 1,200.
+fn send_deadline(time: u32, high: u32, lifetime: u16) -> u64
+    ensures { λ r. ⌜ r ≡ sendDeadline (recordWith 0 time high [] [] [] 0) lifetime ⌝ }
+{
+    let mut by_time = time as u64 + lifetime as u64;
+    if lifetime == 0 {
+        by_time = time as u64 + 1200;
+    }
+    let by_high = high as u64 + 1;
+    if by_time < by_high {
+        return by_high;
+    }
+    by_time
+}
+
+// The number of the first check that turns down a send, or 0: 26, 10, 9, 24.
+fn send_number(broken: bool, output: usize, buffer: usize, payload: usize, deadline: u64) -> u8
+    ensures { λ r. ⌜ r ≡ firstOf (sendChecksOn broken output buffer payload deadline) ⌝ }
+{
+    if broken {
+        return 26;
+    }
+    if output < 1254 {
+        return 10;
+    }
+    if buffer < 307 {
+        return 10;
+    }
+    if 32 < payload {
+        return 9;
+    }
+    if 4294967295 < deadline {
+        return 24;
+    }
+    0
+}
+
+// A payload is sent with a lifetime: its frame stands in the buffer, and the log records in the output.
+#[no_mangle]
+pub extern "C" fn panel_send<'a, 'b, 'c>(
+    mut p: Panel,
+    payload: &'a [u8],
+    lifetime: u16,
+    output: &'b mut [u8],
+    buffer: &'c mut [u8],
+) -> Sent
+    ensures { λ r. ⌜ Promised (recordOf p) (send (now (payload .entry)) lifetime (now (output .entry)) (now (buffer .entry)))
+        (sentResult r (now (output .exit)) (now (buffer .exit))) ⌝ }
+    ensures { λ r. ⌜ GivenBack (r .number) p (r .panel) ⌝ }
+{
+    let broken = broken(p.own, p.high, p.count, &p.marks, &p.barrier, &p.slots);
+    let deadline = send_deadline(p.time, p.high, lifetime);
+    let number = send_number(broken, output.len(), buffer.len(), payload.len(), deadline);
+    if number != 0 {
+        return Sent {
+            number,
+            count: 0,
+            length: 0,
+            panel: p,
+        };
+    }
+    let entries = p.barrier;
+    let mut barrier = [0u32; 64];
+    let length = write(p.own, deadline as u32, entries, payload, buffer);
+    let mut marks = p.marks;
+    let begun = start(p.own, p.time, p.high, p.count);
+    let handed = hand(begun, &mut marks, &mut barrier, &buffer[0..length], output);
+    let settled = settle(handed, &mut marks, &mut barrier, &p.slots, output);
+    let places = settled.places;
+    gather(&mut p.slots, &places, settled.waiting);
+    p.high = settled.high;
+    p.count = settled.waiting;
+    p.marks = marks;
+    p.barrier = barrier;
+    Sent {
+        number: 0,
+        count: settled.handed,
+        length,
+        panel: p,
+    }
+}

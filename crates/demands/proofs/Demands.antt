@@ -20,18 +20,18 @@ use Rattle.rules.specs.Demand3.{Demand3}
 use Rattle.rules.proofs.Theorems.{demand-3, number-listed, refusal-unchanged}
 use Rattle.panel.proofs.panel_fresh.Statement as fresh
 use Rattle.panel.proofs.panel_fresh.Met as fresh-theorem
-use Rattle.panel.proofs.sending.panel_send.Statement as send
-use Rattle.panel.proofs.sending.panel_send.Met as send-theorem
-use Rattle.panel.proofs.sending.panel_send.Kinds as send-kinds
-use Rattle.panel.proofs.sending.panel_send.Reads as send-reads
-use Rattle.panel.proofs.receiving.panel_receive.Statement as receive
-use Rattle.panel.proofs.receiving.panel_receive.Met as receive-theorem
-use Rattle.panel.proofs.receiving.panel_receive.Kinds as receive-kinds
-use Rattle.panel.proofs.receiving.panel_receive.Reads as receive-reads
-use Rattle.panel.proofs.clocking.panel_clock.Kinds as clock-kinds
-use Rattle.panel.proofs.clocking.panel_clock.Reads as clock-reads
-use Rattle.panel.proofs.clocking.panel_clock.Statement as clock
-use Rattle.panel.proofs.clocking.panel_clock.Met as clock-theorem
+use Rattle.panel.proofs.panel_send.Statement as send
+use Rattle.panel.proofs.panel_send.Met as send-theorem
+use Rattle.panel.proofs.panel_send.Kinds as send-kinds
+use Rattle.panel.proofs.panel_send.Reads as send-reads
+use Rattle.panel.proofs.panel_receive.Statement as receive
+use Rattle.panel.proofs.panel_receive.Met as receive-theorem
+use Rattle.panel.proofs.panel_receive.Kinds as receive-kinds
+use Rattle.panel.proofs.panel_receive.Reads as receive-reads
+use Rattle.panel.proofs.panel_clock.Kinds as clock-kinds
+use Rattle.panel.proofs.panel_clock.Reads as clock-reads
+use Rattle.panel.proofs.panel_clock.Statement as clock
+use Rattle.panel.proofs.panel_clock.Met as clock-theorem
 use Rattle.demands.specs.Runs.{Run, madeOf, Follows}
 use Rattle.demands.proofs.Following.{follows-promised}
 use Rattle.demands.proofs.Learning.{Gives, SendPromise, ReceivePromise, ClockPromise, send-learnt, receive-learnt, clock-learnt}

@@ -7,12 +7,12 @@ use denote.Ref.{now}
 use denote.Triple.Clauses.{AtExit}
 use Rattle.rules.specs.Results.{Promised, send, receive, clock}
 use Rattle.panel.specs.Record.{recordOf, sentResult, receivedResult, clockedResult}
-use Rattle.panel.proofs.sending.panel_send.Kinds as send-kinds
-use Rattle.panel.proofs.sending.panel_send.Reads as send-reads
-use Rattle.panel.proofs.receiving.panel_receive.Kinds as receive-kinds
-use Rattle.panel.proofs.receiving.panel_receive.Reads as receive-reads
-use Rattle.panel.proofs.clocking.panel_clock.Kinds as clock-kinds
-use Rattle.panel.proofs.clocking.panel_clock.Reads as clock-reads
+use Rattle.panel.proofs.panel_send.Kinds as send-kinds
+use Rattle.panel.proofs.panel_send.Reads as send-reads
+use Rattle.panel.proofs.panel_receive.Kinds as receive-kinds
+use Rattle.panel.proofs.panel_receive.Reads as receive-reads
+use Rattle.panel.proofs.panel_clock.Kinds as clock-kinds
+use Rattle.panel.proofs.panel_clock.Reads as clock-reads
 
 -- of every call of a function, with whatever arguments, result and lent buffers at its end, the first claim gives the second
 abbrev pub Gives : (n : ℕ) (params : List (PK n)) (result : RK n) → Out n params result → Out n params result → Type 0

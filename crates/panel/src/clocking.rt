@@ -16,13 +16,13 @@ fn clock_number(broken: bool, output: usize, reading: u32, time: u32) -> u8
     ensures { λ r. ⌜ r ≡ firstOf (clockChecksOn broken output reading time) ⌝ }
 {
     if broken {
-        return 26;
+        return 26; // the record is broken
     }
     if output < 1254 {
-        return 10;
+        return 10; // the output is short
     }
     if reading < time {
-        return 25;
+        return 25; // the reading is below the panel's time
     }
     0
 }

@@ -33,10 +33,10 @@ fn frame_number(broken: bool, output: usize, frame: &[u8]) -> u8
     ensures { λ r. ⌜ r ≡ firstOf (frameChecksOn broken output (now (frame .entry))) ⌝ }
 {
     if broken {
-        return 26;
+        return 26; // the record is broken
     }
     if output < 1254 {
-        return 10;
+        return 10; // the output is short
     }
     frame_check(frame)
 }
@@ -56,17 +56,18 @@ fn message_number<'a, 'b>(
 {
     let from = source(frame);
     let due = deadline(frame);
+    let mark = marks[from as usize];
     if from == own {
-        return 20;
+        return 20; // its source is the own number
     }
     if due < time {
-        return 21;
+        return 21; // it has lapsed
     }
-    if due <= marks[from as usize] {
-        return 22;
+    if due <= mark {
+        return 22; // its deadline is at most its source's mark
     }
     if is_waiting(frame, slots, count) {
-        return 22;
+        return 22; // it is waiting already
     }
     if count < 32 {
         return 0;
@@ -74,7 +75,7 @@ fn message_number<'a, 'b>(
     if ready(frame, marks, time) {
         return 0;
     }
-    23
+    23 // 32 are waiting and it is not ready
 }
 
 // Takes the message of a readable frame: a ready one is handed without entering the list, any other

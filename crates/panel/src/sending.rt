@@ -34,19 +34,19 @@ fn send_number(broken: bool, output: usize, buffer: usize, payload: usize, deadl
     ensures { λ r. ⌜ r ≡ firstOf (sendChecksOn broken output buffer payload deadline) ⌝ }
 {
     if broken {
-        return 26;
+        return 26; // the record is broken
     }
     if output < 1254 {
-        return 10;
+        return 10; // the output is short
     }
     if buffer < 307 {
-        return 10;
+        return 10; // the frame buffer is short
     }
     if 32 < payload {
-        return 9;
+        return 9; // the payload is too long
     }
     if 4294967295 < deadline {
-        return 24;
+        return 24; // the deadline would pass the last one
     }
     0
 }

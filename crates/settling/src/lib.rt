@@ -164,10 +164,10 @@ fn put_log_record(part: &mut [u8], frame: &[u8])
 fn larger(a: u32, b: u32) -> u32
     ensures { λ r. ⌜ r ≡ max a b ⌝ }
 {
-    if a < b {
-        return b;
+    if b < a {
+        return a;
     }
-    a
+    b
 }
 
 // Hands the message of a readable frame. Its log record stands behind those of the messages handed
@@ -246,10 +246,10 @@ pub fn settle(
     ensures { λ r. ⌜ Settles (now (slots .entry)) (stage s (now (marks .entry)) (now (barrier .entry)) (now (output .entry)))
         (stage r (now (marks .exit)) (now (barrier .exit)) (now (output .exit))) ⌝ }
 {
-    let first = choice(s.waiting, &s.places, marks, s.time, slots);
-    if !first.found {
+    let next = choice(s.waiting, &s.places, marks, s.time, slots);
+    if !next.found {
         return s;
     }
-    let rest = hand_at(s, first.place, marks, barrier, slots, output);
+    let rest = hand_at(s, next.place, marks, barrier, slots, output);
     settle(rest, marks, barrier, slots, output)
 }

@@ -34,11 +34,11 @@ mark : (c : tie.After-deadline) → getD (now (start c .args .marks)) (c .before
 mark c = ap (λ (s : ℕ). getD (now (start c .args .marks)) s 0) (from c)
 
 -- past 20, 21, and the two ways of 22
-other : (c : tie.Else1) → m (c .before) .source ≡ start (c .before) .args .own → ⊥
-other c e = c .if1 .left (from (c .before) ∙ e)
+other : (c : tie.Else1) → m (c .before .before) .source ≡ start (c .before .before) .args .own → ⊥
+other c e = c .if1 .left (from (c .before .before) ∙ e)
 
-live : (c : tie.Else2) → start (c .before .before) .args .time ≤ m (c .before .before) .deadline
-live c = omega (arith, due (c .before .before))
+live : (c : tie.Else2) → start (c .before .before .before) .args .time ≤ m (c .before .before .before) .deadline
+live c = omega (arith, due (c .before .before .before))
 
 above : (c : tie.Else3) → let d = c .before .before .before .before in getD (now (start d .args .marks)) (m d .source) 0 < m d .deadline
 above c = let d = c .before .before .before .before in omega (arith, c .if3 .left, due d, mark d)
@@ -53,28 +53,27 @@ source-requires c κs = search needs
 deadline-requires : tie.Need-deadline-requires
 deadline-requires c κs = search needs
 
+cast-mark : tie.Need-cast-mark
+cast-mark c = search needs
+
+mul-mark : tie.Need-mul-mark
+mul-mark c = search needs
+
+element-copy-out-mark : tie.Need-element-copy-out-mark
+unfolding messageIn
+element-copy-out-mark c =
+    omega (arith, from c, zero-passed 4 (now (start c .args .frame)) (start c .pre .0) .source)
+
 returns : tie.Need-returns
-returns c = number-own _ _ _ _ _ _ (omega (arith, from (c .before), c .if1 .taken))
+returns c = number-own _ _ _ _ _ _ (omega (arith, from (c .before .before), c .if1 .taken))
 
 returns-2 : tie.Need-returns-2
-returns-2 c = number-lapsed _ _ _ _ _ _ (other (c .before)) (omega (arith, due (c .before .before), c .if2 .taken))
-
-cast-if3 : tie.Need-cast-if3
-cast-if3 c = search needs
-
-mul-if3 : tie.Need-mul-if3
-mul-if3 c = search needs
-
-element-copy-out-if3 : tie.Need-element-copy-out-if3
-unfolding messageIn
-element-copy-out-if3 c =
-    let d = c .before .before in
-    omega (arith, from d, zero-passed 4 (now (start d .args .frame)) (start d .pre .0) .source)
+returns-2 c = number-lapsed _ _ _ _ _ _ (other (c .before)) (omega (arith, due (c .before .before .before), c .if2 .taken))
 
 returns-3 : tie.Need-returns-3
 returns-3 c =
-    let live-at = c .before .before in
-    let d = live-at .before .before in
+    let live-at = c .before in
+    let d = live-at .before .before .before in
     number-reached _ _ _ _ _ _ (other (live-at .before)) (live live-at) (omega (arith, c .if3 .taken, due d, mark d))
 
 is-waiting-requires : tie.Need-is-waiting-requires
@@ -83,14 +82,14 @@ is-waiting-requires c κs = search needs
 returns-4 : tie.Need-returns-4
 returns-4 c =
     let above-at = c .before .before in
-    let live-at = above-at .before .before in
+    let live-at = above-at .before in
     number-waiting _ _ _ _ _ _ (other (live-at .before)) (live live-at) (above above-at) (sym (c .before .is-waiting .ensures) ∙ c .if4 .taken)
 
 returns-5 : tie.Need-returns-5
 returns-5 c =
     let new-at = c .before in
     let above-at = new-at .before .before in
-    let live-at = above-at .before .before in
+    let live-at = above-at .before in
     number-room _ _ _ _ _ _ (other (live-at .before)) (live live-at) (above above-at) (new new-at) (omega arith)
 
 ready-requires : tie.Need-ready-requires
@@ -100,14 +99,14 @@ returns-6 : tie.Need-returns-6
 returns-6 c =
     let new-at = c .before .before .before in
     let above-at = new-at .before .before in
-    let live-at = above-at .before .before in
+    let live-at = above-at .before in
     number-ready _ _ _ _ _ _ (other (live-at .before)) (live live-at) (above above-at) (new new-at) (sym (c .before .ready .ensures) ∙ c .if6 .taken)
 
 returns-7 : tie.Need-returns-7
 returns-7 c =
     let new-at = c .before .before .before in
     let above-at = new-at .before .before in
-    let live-at = above-at .before .before in
+    let live-at = above-at .before in
     number-full _ _ _ _ _ _ (other (live-at .before)) (live live-at) (above above-at) (new new-at) (omega (arith, c .before .before .if5 .left))
     (sym (c .before .ready .ensures) ∙ c .if6 .left)
 
@@ -117,11 +116,11 @@ message-number-spec =
     (tie.spec
     source-requires
     deadline-requires
+    cast-mark
+    mul-mark
+    element-copy-out-mark
     returns
     returns-2
-    cast-if3
-    mul-if3
-    element-copy-out-if3
     returns-3
     is-waiting-requires
     returns-4

@@ -23,7 +23,7 @@ use Rattle.rules.specs.Settling.{settle, withWaiting}
 use Rattle.rules.specs.Calls.{newMessage, emptied, handAndSettle, sending}
 use Rattle.rules.specs.Refusals.{sendChecks}
 use Rattle.rules.specs.Results.{Promised, send}
-use Rattle.rules.proofs.Checks.{send-passed, new-readable}
+use Rattle.rules.proofs.Checks.{SendPassed, send-passed, new-readable}
 use Rattle.rules.proofs.LogRecords.{length-logRecord}
 use Rattle.slots.specs.Slots.{Reads, Kept}
 use Rattle.slots.proofs.Kept.{held-order}
@@ -33,19 +33,25 @@ use Rattle.panel.specs.Record.{recordOf, sentResult, GivenBack, started}
 use Rattle.panel.specs.declared.Panel.{Panel}
 use Rattle.panel.proofs.Answering.{afterwards, settled-promised}
 
-module _ (p : Panel) (payload : List ℕ) (lifetime : ℕ) (output buffer : List ℕ) (bytes : Bytes payload) (panels : length (p .barrier) ≡ 64)
-    (passed : firstOf (sendChecks (recordOf p) payload lifetime output buffer) ≡ 0) where
+-- a send that no check turns down
+pub record Passed (p : Panel) (payload : List ℕ) (lifetime : ℕ) (output buffer : List ℕ) : Type 0 where
+  pub bytes : Bytes payload
+  pub panels : length (p .barrier) ≡ 64
+  pub passed : firstOf (sendChecks (recordOf p) payload lifetime output buffer) ≡ 0
+
+module _ {p : Panel} {payload : List ℕ} {lifetime : ℕ} {output buffer : List ℕ} (P : Passed p payload lifetime output buffer) where
+  pub checked : SendPassed (recordOf p) payload lifetime output buffer
+  checked = send-passed (recordOf p) payload lifetime output buffer (P .passed)
+
   -- the message that is sent
   abbrev pub new : Message
   new = newMessage (recordOf p) payload lifetime
 
   readable : Readable width new
-  readable = new-readable (recordOf p) payload lifetime output buffer (send-passed (recordOf p) payload lifetime output buffer passed) panels bytes
+  readable = new-readable (recordOf p) payload lifetime output buffer checked (P .panels) (P .bytes)
 
   pub frame-fits : length (frame width new) ≤ length buffer
-  frame-fits =
-      let P = send-passed (recordOf p) payload lifetime output buffer passed in
-      omega (arith, P .buffer-room, frame-size new (readable-true width new readable) .1)
+  frame-fits = omega (arith, checked .buffer-room, frame-size new (readable-true width new readable) .1)
 
   -- ---- its frame is written
 
@@ -78,20 +84,22 @@ module _ (p : Panel) (payload : List ℕ) (lifetime : ℕ) (output buffer : List
 
   pub sent-done : Kept (p .slots) (p .count) → (after : Stage) (back : Panel) → Settles (p .slots) handedStage after
       → recordOf back ≡ panelAt (p .slots) after
+      → (size : ℕ) (filled : List ℕ) → size ≡ length (frame width new) → filled ≡ over buffer 0 (frame width new)
       → Promised (recordOf p) (send payload lifetime output buffer)
-      (sentResult (record { number = 0; count = after .left .handed; length = length (frame width new); panel = back }) (after .output) (over buffer 0 (frame width new)))
+      (sentResult (record { number = 0; count = after .left .handed; length = size; panel = back }) (after .output) filled)
       × GivenBack 0 p back
   unfolding sending handAndSettle logRecords
-  sent-done kept after back settles e =
+  sent-done kept after back settles e size filled same-size same-bytes =
       let one = ap (over output 0) (sym (append-nil (logRecord new))) in (
-        settled-promised (recordOf p) (send payload lifetime output buffer) passed (p .slots) (new ∷ []) handedStage after settles
+        rw same-size
+            (settled-promised (recordOf p) (send payload lifetime output buffer) (P .passed) (p .slots) (new ∷ []) handedStage after settles
             (ap (λ (r : Record). afterwards (new ∷ []) (settle r)) (sym (panel-handed kept)))
             one
             refl
             (length-append (logRecord new) [] ∙ omega (arith, length-logRecord new (readable .payload)))
             (recordOf back)
-            (over buffer 0 (frame width new))
+            filled
             e
-            refl,
+            same-bytes),
         λ refuses. absurd (refuses refl),
       )

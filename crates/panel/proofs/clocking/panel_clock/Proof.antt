@@ -16,21 +16,29 @@ use Rattle.panel.proofs.ClockDone.{clocked-done}
 use Rattle.panel.proofs.clocking.panel_clock.Statement.{statement}
 use Rattle.panel.proofs.clocking.panel_clock.Tie as tie
 
+-- looking back: the start of the call
+abbrev start : tie.After-broken → tie.Start
+start c = c .before .before .before .before .before .before .before
+
 -- the number is that of the first check that applies
-numbered : (c : tie.After-clock-number)
-    → c .clock-number .result ≡ firstOf (clockChecks (recordOf (c .before .before .before .before .before .before .before .before .args .t1)) (c .before .before .before .before .before .before .before .before .args .time) (c .before .before .before .before .before .before .before .before .args .output .now))
+numbered : (c : tie.After-clock-number) → let a = start (c .before) .args in
+    c .clock-number .result ≡ firstOf (clockChecks (recordOf (a .t1)) (a .time) (a .output .now))
 unfolding broken
 numbered c =
-    let a = c .before .before .before .before .before .before .before .before .args in
+    let a = start (c .before) .args in
     c .clock-number .ensures
     ∙ ap (λ (b : Bool). firstOf (clockChecksOn b (length (a .output .now)) (a .time) (a .t1 .time))) (c .before .broken .ensures)
     ∙ ap firstOf (clockChecks-on (recordOf (a .t1)) (a .time) (a .output .now))
 
-passed : (c : tie.Else1) → firstOf (clockChecks (recordOf (c .before .before .before .before .before .before .before .before .before .args .t1)) (c .before .before .before .before .before .before .before .before .before .args .time) (c .before .before .before .before .before .before .before .before .before .args .output .now)) ≡ 0
+-- past the checks
+abbrev back : tie.Else1 → tie.Start
+back c = start (c .before .before)
+
+passed : (c : tie.Else1) → firstOf (clockChecks (recordOf (back c .args .t1)) (back c .args .time) (back c .args .output .now)) ≡ 0
 passed c = sym (numbered (c .before)) ∙ c .if1 .left
 
-checked : (c : tie.Else1) → ClockPassed (recordOf (c .before .before .before .before .before .before .before .before .before .args .t1)) (c .before .before .before .before .before .before .before .before .before .args .time) (c .before .before .before .before .before .before .before .before .before .args .output .now)
-checked c = clock-passed (recordOf (c .before .before .before .before .before .before .before .before .before .args .t1)) (c .before .before .before .before .before .before .before .before .before .args .time) (c .before .before .before .before .before .before .before .before .before .args .output .now) (passed c)
+checked : (c : tie.Else1) → ClockPassed (recordOf (back c .args .t1)) (back c .args .time) (back c .args .output .now)
+checked c = clock-passed (recordOf (back c .args .t1)) (back c .args .time) (back c .args .output .now) (passed c)
 
 long : (c : tie.After-settle) → length (c .settle .result .places) ≡ 32
 long c = search needs
@@ -50,8 +58,9 @@ alive-requires c κs = (search needs, valid-kept _ (checked (c .before .before .
 
 settle-requires : tie.Need-settle-requires
 settle-requires c κs =
-    let listed = c .before .before .before .before .before .before .before .before .before .alive .ensures .listed in
-    ((search needs, listed), omega (arith, listed .few, checked (c .before .before .before .before .before .before .before .before .before .before .before .before .before) .output-room))
+    let kept = c .before .before .before .before .before .before .before .before .before in
+    let listed = kept .alive .ensures .listed in
+    ((search needs, listed), omega (arith, listed .few, checked (kept .before .before .before .before) .output-room))
 
 gather-requires : tie.Need-gather-requires
 gather-requires c κs = search needs
@@ -61,12 +70,13 @@ same-length c = search needs
 
 returns-2 : tie.Need-returns-2
 returns-2 c =
-    let past = c .before .before .before .before .before .before .before .before .before .before .before .before .before .before .before .before .before .before .before .before in
-    let a = past .before .before .before .before .before .before .before .before .before .args in
+    let kept = c .before .before .before .before .before .before .before .before .before .before .before .before .before .before .before .before in
+    let past = kept .before .before .before .before in
+    let a = back past .args in
     let settled = c .before .before .before .before .before .before .settle in
-    clocked-done (a .t1) (a .time) (a .output .now) _ (c .before .before .before .before .before .before .before .before .before .before .before .before .before .before .before .before .alive .ensures)
+    clocked-done (a .t1) (a .time) (a .output .now) _ (kept .alive .ensures)
     (stage (settled .result) (settled .last .1 .0) (settled .last .1 .1 .0) (settled .last .1 .1 .1 .1 .0)) _ (passed past) (settled .ensures)
-    (gathered-record (a .t1 .slots) _ (settled .result) _ _ _ _ (settled .ensures) (long (c .before .before .before .before .before .before)) (c .gather .ensures) _ _ refl refl)
+    (gathered-record _ _ (settled .result) _ _ _ _ (settled .ensures) (long (c .before .before .before .before .before .before)) (c .gather .ensures) _ _ refl refl)
 
 pub panel-clock-spec : {M : Type 1} → statement M
 panel-clock-spec =

@@ -19,17 +19,20 @@ use Rattle.panel.proofs.ReceiveDone.{panel-started, taken-own, taken-ti
 use Rattle.panel.proofs.receiving.panel_receive.Statement.{statement}
 use Rattle.panel.proofs.receiving.panel_receive.Tie as tie
 
+-- looking back: the start of the call
+abbrev start : tie.After-frame-number → tie.Start
+start c = c .before .before .before .before .before .before .before .before .before
+
 -- the number is that of the first check that applies
-framed : (c : tie.After-frame-number)
-    → c .frame-number .result
-    ≡ firstOf (frameChecksOn (broken (recordOf (c .before .before .before .before .before .before .before .before .before .args .t1))) (length (c .before .before .before .before .before .before .before .before .before .args .output .now)) (c .before .before .before .before .before .before .before .before .before .args .frame .now))
+framed : (c : tie.After-frame-number) → let a = start c .args in
+    c .frame-number .result ≡ firstOf (frameChecksOn (broken (recordOf (a .t1))) (length (a .output .now)) (a .frame .now))
 unfolding broken
 framed c =
-    let a = c .before .before .before .before .before .before .before .before .before .args in
+    let a = start c .args in
     c .frame-number .ensures ∙ ap (λ (b : Bool). firstOf (frameChecksOn b (length (a .output .now)) (a .frame .now))) (c .before .broken .ensures)
 
-numbered : (c : tie.Joined1)
-    → c .if1 .number ≡ firstOf (receiveChecks (recordOf (c .before .before .before .before .before .before .before .before .before .before .args .t1)) (c .before .before .before .before .before .before .before .before .before .before .args .frame .now) (c .before .before .before .before .before .before .before .before .before .before .args .output .now))
+numbered : (c : tie.Joined1) → let a = start (c .before) .args in
+    c .if1 .number ≡ firstOf (receiveChecks (recordOf (a .t1)) (a .frame .now) (a .output .now))
 unfolding messageChecks ready met lapsed
 numbered c =
     let first-number = framed (c .before) in
@@ -38,12 +41,16 @@ numbered c =
     (λ w. w .1 ∙ first-number ∙ frame-refused _ _ _ (λ e. w .0 .left (first-number ∙ e)))
     (c .if1 .came)
 
-passed : (c : tie.Else2) → firstOf (receiveChecks (recordOf (c .before .before .before .before .before .before .before .before .before .before .before .args .t1)) (c .before .before .before .before .before .before .before .before .before .before .before .args .frame .now) (c .before .before .before .before .before .before .before .before .before .before .before .args .output .now)) ≡ 0
+-- past the checks
+abbrev back : tie.Else2 → tie.Start
+back c = start (c .before .before)
+
+passed : (c : tie.Else2) → firstOf (receiveChecks (recordOf (back c .args .t1)) (back c .args .frame .now) (back c .args .output .now)) ≡ 0
 passed c = sym (numbered (c .before)) ∙ c .if2 .left
 
-checked : (c : tie.Else2)
-    → ReceivePassed (recordOf (c .before .before .before .before .before .before .before .before .before .before .before .args .t1)) (c .before .before .before .before .before .before .before .before .before .before .before .args .frame .now) (c .before .before .before .before .before .before .before .before .before .before .before .args .output .now) (messageIn 4 (c .before .before .before .before .before .before .before .before .before .before .before .args .frame .now))
-checked c = receive-passed (recordOf (c .before .before .before .before .before .before .before .before .before .before .before .args .t1)) (c .before .before .before .before .before .before .before .before .before .before .before .args .frame .now) (c .before .before .before .before .before .before .before .before .before .before .before .args .output .now) (passed c)
+checked : (c : tie.Else2) → let a = back c .args in
+    ReceivePassed (recordOf (a .t1)) (a .frame .now) (a .output .now) (messageIn 4 (a .frame .now))
+checked c = let a = back c .args in receive-passed (recordOf (a .t1)) (a .frame .now) (a .output .now) (passed c)
 
 long : (c : tie.After-settle) → length (c .settle .result .places) ≡ 32
 long c = search needs
@@ -57,7 +64,7 @@ frame-number-requires c κs = search needs
 message-number-requires : tie.Need-message-number-requires
 message-number-requires c κs =
     let test = c .before .before .before .before in
-    let a = c .before .before .before .before .before .before .before .before .before .before .before .before .before .before .args in
+    let a = start (test .before) .args in
     let through = sym (framed (test .before)) ∙ test .if1 .taken in (
       through-reads (recordOf (a .t1)) (a .frame .now) (a .output .now) through,
       search needs,
@@ -73,10 +80,11 @@ start-requires c κs = search needs
 
 take-requires : tie.Need-take-requires
 take-requires c κs =
-    let past = c .before .before .before .before .before .before .before in
-    let a = past .before .before .before .before .before .before .before .before .before .before .before .args in
+    let begun = c .before .before .before .before in
+    let past = begun .before .before .before in
+    let a = back past .args in
     let whole = valid-kept (a .t1) (checked past .valid) in
-    rw (c .before .before .before .before .start .ensures) (
+    rw (begun .start .ensures) (
       (checked past .read, search needs, whole, refl),
       (
         ⊎-elim (λ few. inl few) (λ r. inr (rw (panel-started (a .t1) _ whole) r)) (room (a .t1) _ _ (passed past)),
@@ -86,13 +94,13 @@ take-requires c κs =
 
 settle-requires : tie.Need-settle-requires
 settle-requires c κs =
-    let past = c .before .before .before .before .before .before .before .before .before .before .before .before .before .before .before .before in
-    let take = c .before .before .before .before .before .before .before .before .take in
-    let more = rw (c .before .before .before .before .before .before .before .before .before .before .before .before .before .start .ensures) at (take .ensures .one-more) in
-    let few = valid-kept _ (checked past .valid) .few in (
-      (take .ensures .size, take .ensures .listed),
-      omega (arith, more, few, checked past .output-room, take .kept .1 .1 .1 .1 .1 .0),
-    )
+    let take = c .before .before .before .before .before .before .before .before in
+    let begun = take .before .before .before .before .before in
+    let past = begun .before .before .before in
+    let taken = take .take .ensures in
+    let more = rw (begun .start .ensures) at (taken .one-more) in
+    let few = valid-kept _ (checked past .valid) .few in
+    ((taken .size, taken .listed), omega (arith, more, few, checked past .output-room, take .take .kept .1 .1 .1 .1 .1 .0))
 
 gather-requires : tie.Need-gather-requires
 gather-requires c κs = search needs
@@ -102,10 +110,12 @@ same-length c = search needs
 
 returns-2 : tie.Need-returns-2
 returns-2 c =
-    let past = c .before .before .before .before .before .before .before .before .before .before .before .before .before .before .before .before .before .before .before .before .before .before .before in
-    let a = past .before .before .before .before .before .before .before .before .before .before .before .args in
     let settled = c .before .before .before .before .before .before .settle in
-    let taken = rw (c .before .before .before .before .before .before .before .before .before .before .before .before .before .before .before .before .before .before .before .before .start .ensures) at (c .before .before .before .before .before .before .before .before .before .before .before .before .before .before .before .take .ensures) in
+    let take = c .before .before .before .before .before .before .before .before .before .before .before .before .before .before .before in
+    let begun = take .before .before .before .before .before in
+    let past = begun .before .before .before in
+    let a = back past .args in
+    let taken = rw (begun .start .ensures) at (take .take .ensures) in
     received-done (a .t1) (a .frame .now) (a .output .now) (valid-kept (a .t1) (checked past .valid)) (checked past .read) _ _
     (stage (settled .result) (settled .last .1 .0) (settled .last .1 .1 .0) (settled .last .1 .1 .1 .1 .0)) taken (settled .ensures) _ (passed past)
     (gathered-record _ _ (settled .result) _ _ _ _ (settled .ensures) (long (c .before .before .before .before .before .before)) (c .gather .ensures) _ _ (taken-own taken) (taken-time taken))

@@ -16,15 +16,25 @@ use Rattle.rules.specs.Panel.{none64}
 use Rattle.rules.specs.Calls.{newMessage, sendDeadline}
 use Rattle.rules.specs.Refusals.{broken, sendChecks}
 use Rattle.rules.specs.Results.{refused, send}
-use Rattle.rules.proofs.Checks.{SendPassed, send-passed}
 use Rattle.slots.proofs.Kept.{listed-order}
 use Rattle.settling.specs.Record.{stage}
 use Rattle.panel.specs.Record.{recordOf, sendChecksOn}
 use Rattle.panel.proofs.Checking.{sendChecks-on}
 use Rattle.panel.proofs.Answering.{refused-promised, valid-kept, gathered-record}
-use Rattle.panel.proofs.SendDone.{frame-fits, length-written, buffer-written, frame-reads, stage-handed, sent-done}
+use Rattle.panel.proofs.SendDone.{Passed, checked, frame-fits, length-written, buffer-written, frame-reads, stage-handed, sent-done}
 use Rattle.panel.proofs.sending.panel_send.Statement.{statement}
 use Rattle.panel.proofs.sending.panel_send.Tie as tie
+
+-- looking back: what was known of the payload, and the start of the call
+abbrev known : tie.After-send-deadline → tie.After-shared-slice-known
+known c = c .before .before .before .before .before .before .before .before .before
+
+abbrev start : tie.After-send-deadline → tie.Start
+start c = known c .before
+
+-- the checks of the call
+abbrev table : tie.Start → List (Bool × ℕ)
+table c = sendChecks (recordOf (c .args .t1)) (c .args .payload .now) (c .args .lifetime) (c .args .output .now) (c .args .buffer .now)
 
 payload-bytes : (c : tie.After-shared-slice-known) → Bytes (c .before .args .payload .now)
 payload-bytes c = λ i. omega (arith, c .shared-slice-known .given i)
@@ -32,51 +42,58 @@ payload-bytes c = λ i. omega (arith, c .shared-slice-known .given i)
 panels : (c : tie.Start) → length (c .args .t1 .barrier) ≡ 64
 panels c = search needs
 
+long : (c : tie.After-settle) → length (c .settle .result .places) ≡ 32
+long c = search needs
+
 -- the deadline that the message would have
-due : (c : tie.After-send-deadline) → c .send-deadline .result ≡ sendDeadline (recordOf (c .before .before .before .before .before .before .before .before .before .before .args .t1)) (c .before .before .before .before .before .before .before .before .before .before .args .lifetime)
+due : (c : tie.After-send-deadline) → c .send-deadline .result ≡ sendDeadline (recordOf (start c .args .t1)) (start c .args .lifetime)
 unfolding sendDeadline
 due c = c .send-deadline .ensures
 
 -- the number is that of the first check that applies
-numbered : (c : tie.After-send-number) → c .send-number .result ≡ firstOf (sendChecks (recordOf (c .before .before .before .before .before .before .before .before .before .before .before .args .t1)) (c .before .before .before .before .before .before .before .before .before .before .before .args .payload .now) (c .before .before .before .before .before .before .before .before .before .before .before .args .lifetime) (c .before .before .before .before .before .before .before .before .before .before .before .args .output .now) (c .before .before .before .before .before .before .before .before .before .before .before .args .buffer .now))
+numbered : (c : tie.After-send-number) → c .send-number .result ≡ firstOf (table (start (c .before)))
 unfolding broken
 numbered c =
-    let a = c .before .before .before .before .before .before .before .before .before .before .before .args in
+    let a = start (c .before) .args in
     c .send-number .ensures
     ∙ ap₂ (λ (b : Bool) (n : ℕ). firstOf (sendChecksOn b (length (a .output .now)) (length (a .buffer .now)) (length (a .payload .now)) n))
     (c .before .before .broken .ensures) (due (c .before))
     ∙ ap firstOf (sendChecks-on (recordOf (a .t1)) (a .payload .now) (a .lifetime) (a .output .now) (a .buffer .now))
 
-passed : (c : tie.Else1) → firstOf (sendChecks (recordOf (c .before .before .before .before .before .before .before .before .before .before .before .before .args .t1)) (c .before .before .before .before .before .before .before .before .before .before .before .before .args .payload .now) (c .before .before .before .before .before .before .before .before .before .before .before .before .args .lifetime) (c .before .before .before .before .before .before .before .before .before .before .before .before .args .output .now) (c .before .before .before .before .before .before .before .before .before .before .before .before .args .buffer .now)) ≡ 0
-passed c = sym (numbered (c .before)) ∙ c .if1 .left
+-- past the checks
+abbrev back : tie.Else1 → tie.Start
+back c = start (c .before .before)
 
-checked : (c : tie.Else1) → SendPassed (recordOf (c .before .before .before .before .before .before .before .before .before .before .before .before .args .t1)) (c .before .before .before .before .before .before .before .before .before .before .before .before .args .payload .now) (c .before .before .before .before .before .before .before .before .before .before .before .before .args .lifetime) (c .before .before .before .before .before .before .before .before .before .before .before .before .args .output .now) (c .before .before .before .before .before .before .before .before .before .before .before .before .args .buffer .now)
-checked c = send-passed (recordOf (c .before .before .before .before .before .before .before .before .before .before .before .before .args .t1)) (c .before .before .before .before .before .before .before .before .before .before .before .before .args .payload .now) (c .before .before .before .before .before .before .before .before .before .before .before .before .args .lifetime) (c .before .before .before .before .before .before .before .before .before .before .before .before .args .output .now) (c .before .before .before .before .before .before .before .before .before .before .before .before .args .buffer .now) (passed c)
-
-long : (c : tie.After-settle) → length (c .settle .result .places) ≡ 32
-long c = search needs
+passed : (c : tie.Else1) → Passed (back c .args .t1) (back c .args .payload .now) (back c .args .lifetime) (back c .args .output .now) (back c .args .buffer .now)
+passed c =
+    record {
+      bytes = payload-bytes (known (c .before .before));
+      panels = panels (back c);
+      passed = sym (numbered (c .before)) ∙ c .if1 .left;
+    }
 
 -- the frame that was written
 abbrev new-frame : tie.Else1 → List ℕ
-new-frame c = frame 4 (newMessage (recordOf (c .before .before .before .before .before .before .before .before .before .before .before .before .args .t1)) (c .before .before .before .before .before .before .before .before .before .before .before .before .args .payload .now) (c .before .before .before .before .before .before .before .before .before .before .before .before .args .lifetime))
+new-frame c = let a = back c .args in frame 4 (newMessage (recordOf (a .t1)) (a .payload .now) (a .lifetime))
 
-wrote : (c : tie.After-write)
-    → (c .write .result ≡ length (new-frame (c .before .before .before)))
-    × (c .write .last .1 .1 .1 .1 .0 ≡ over (c .before .before .before .before .before .before .before .before .before .before .before .before .before .before .before .args .buffer .now) 0 (new-frame (c .before .before .before)))
+abbrev past : tie.After-write → tie.Else1
+past c = c .before .before .before
+
+wrote : (c : tie.After-write) → (c .write .result ≡ length (new-frame (past c)))
+    × (c .write .last .1 .1 .1 .1 .0 ≡ over (back (past c) .args .buffer .now) 0 (new-frame (past c)))
 unfolding newMessage
 wrote c =
-    let past = c .before .before .before in
-    let s = past .before .before .before .before .before .before .before .before .before .before .before .before in
-    let a = s .args in
-    let bytes = payload-bytes (past .before .before .before .before .before .before .before .before .before .before .before) in
-    let ensured = rw (due (past .before .before)) at (c .write .ensures) in (
-      ensured .0 ∙ length-written (a .t1) (a .payload .now) (a .lifetime) (a .output .now) (a .buffer .now) bytes (panels s) (passed past),
-      ensured .1 ∙ buffer-written (a .t1) (a .payload .now) (a .lifetime) (a .output .now) (a .buffer .now) bytes (panels s) (passed past),
-    )
+    let ensured = rw (due (past c .before .before)) at (c .write .ensures) in
+    (ensured .0 ∙ length-written (passed (past c)), ensured .1 ∙ buffer-written (passed (past c)))
 
 -- and the part of the buffer that it occupies
-part : (c : tie.After-write) → take (c .write .result - 0) (c .write .last .1 .1 .1 .1 .0) ≡ new-frame (c .before .before .before)
-part c = rw (wrote c .0, wrote c .1, sub-zero) (take-over (c .before .before .before .before .before .before .before .before .before .before .before .before .before .before .before .args .buffer .now) (new-frame (c .before .before .before)))
+part : (c : tie.After-write) → take (c .write .result - 0) (c .write .last .1 .1 .1 .1 .0) ≡ new-frame (past c)
+part c =
+    let f = new-frame (past c) in
+    let buffer = back (past c) .args .buffer .now in
+    ap₂ (λ (n : ℕ) (l : List ℕ). take (n - 0) l) (wrote c .0) (wrote c .1)
+    ∙ ap (λ (n : ℕ). take n (over buffer 0 f)) (sub-zero (length f))
+    ∙ take-over buffer f
 
 broken-requires : tie.Need-broken-requires
 broken-requires c κs = search needs
@@ -92,7 +109,7 @@ unfolding refused
 returns c = (refused-promised _ (send _ _ _ _) _ (numbered (c .before)) (c .if1 .taken), λ _. refl)
 
 cast-write : tie.Need-cast-write
-cast-write c = omega (arith, due (c .before .before .before), checked (c .before) .deadline)
+cast-write c = omega (arith, due (c .before .before .before), checked (passed (c .before)) .deadline)
 
 write-requires : tie.Need-write-requires
 write-requires c κs = search needs
@@ -109,28 +126,24 @@ part-hand-start c = search needs
 part-hand-end : tie.Need-part-hand-end
 part-hand-end c =
     let write = c .before .before .before .before .before .before .before in
-    let past = write .before .before .before in
-    let s = past .before .before .before .before .before .before .before .before .before .before .before .before in
-    let a = s .args in
-    let fits = frame-fits (a .t1) (a .payload .now) (a .lifetime) (a .output .now) (a .buffer .now) (payload-bytes (past .before .before .before .before .before .before .before .before .before .before .before)) (panels s) (passed past) in
-    omega (arith, wrote write .0, fits, write .write .kept .1 .1 .1 .1 .0)
+    omega (arith, wrote write .0, frame-fits (passed (past write)), write .write .kept .1 .1 .1 .1 .0)
 
 hand-requires : tie.Need-hand-requires
 hand-requires c κs =
-    let past = c .before .before .before .before .before .before .before .before .before .before .before .before in
-    let s = past .before .before .before .before .before .before .before .before .before .before .before .before in
-    let a = s .args in
-    let reads = frame-reads (a .t1) (a .payload .now) (a .lifetime) (a .output .now) (a .buffer .now) (payload-bytes (past .before .before .before .before .before .before .before .before .before .before .before)) (panels s) (passed past) in
-    (rw (part (c .before .before .before .before .before .before .before .before .before)) reads, rw (c .before .before .before .before .before .start .ensures) (omega (arith, checked past .output-room)))
+    let write = c .before .before .before .before .before .before .before .before .before in (
+      rw (part write) (frame-reads (passed (past write))),
+      rw (c .before .before .before .before .before .start .ensures) (omega (arith, checked (passed (past write)) .output-room)),
+    )
 
 settle-requires : tie.Need-settle-requires
 settle-requires c κs =
-    let past = c .before .before .before .before .before .before .before .before .before .before .before .before .before .before .before .before .before .before .before .before .before in
-    let hand = c .before .before .before .before .before .before .before .before .hand in
-    let whole = valid-kept _ (checked past .valid) in
-    rw (hand .ensures .0, c .before .before .before .before .before .before .before .before .before .before .before .before .before .before .start .ensures) (
+    let hand = c .before .before .before .before .before .before .before .before in
+    let begun = hand .before .before .before .before .before .before in
+    let P = checked (passed (past (begun .before .before .before .before))) in
+    let whole = valid-kept _ (P .valid) in
+    rw (hand .hand .ensures .0, begun .start .ensures) (
       (search needs, listed-order _ _ whole),
-      omega (arith, whole .few, checked past .output-room, hand .kept .1 .1 .1 .1 .0),
+      omega (arith, whole .few, P .output-room, hand .hand .kept .1 .1 .1 .1 .0),
     )
 
 gather-requires : tie.Need-gather-requires
@@ -140,26 +153,26 @@ same-length : tie.Need-same-length
 same-length c = search needs
 
 same-length-2 : tie.Need-same-length-2
-same-length-2 c = c .before .before .before .before .before .before .before .before .before .before .before .before .before .before .before .before .before .before .before .before .before .before .before .before .before .write .kept .1 .1 .1 .1 .0
+same-length-2 c =
+    let hand = c .before .before .before .before .before .before .before .before .before .before .before .before .before .before .before in
+    hand .before .before .before .before .before .before .before .before .before .before .write .kept .1 .1 .1 .1 .0
 
 returns-2 : tie.Need-returns-2
 unfolding none64
 returns-2 c =
-    let past = c .before .before .before .before .before .before .before .before .before .before .before .before .before .before .before .before .before .before .before .before .before .before .before .before .before .before .before .before in
-    let s = past .before .before .before .before .before .before .before .before .before .before .before .before in
-    let a = s .args in
-    let bytes = payload-bytes (past .before .before .before .before .before .before .before .before .before .before .before) in
-    let write = c .before .before .before .before .before .before .before .before .before .before .before .before .before .before .before .before .before .before .before .before .before .before .before .before .before in
-    let start = c .before .before .before .before .before .before .before .before .before .before .before .before .before .before .before .before .before .before .before .before .before .start in
-    let hand = c .before .before .before .before .before .before .before .before .before .before .before .before .before .before .before .hand in
     let settled = c .before .before .before .before .before .before .settle in
-    let begun = stage-handed (a .t1) (a .payload .now) (a .lifetime) (a .output .now) (a .buffer .now) bytes (panels s) (passed past) _ (part write)
-    (start .result) (hand .result) (hand .last .1 .0) (hand .last .1 .1 .0) (hand .last .1 .1 .1 .1 .0)
-    (start .ensures) (hand .ensures .0) (hand .ensures .1) (hand .ensures .2) (hand .ensures .3) in
-    rw (wrote write .0, wrote write .1)
-    (sent-done (a .t1) (a .payload .now) (a .lifetime) (a .output .now) (a .buffer .now) bytes (panels s) (passed past) (valid-kept (a .t1) (checked past .valid))
-    (stage (settled .result) (settled .last .1 .0) (settled .last .1 .1 .0) (settled .last .1 .1 .1 .1 .0)) _ (rw begun at (settled .ensures))
-    (gathered-record (a .t1 .slots) _ (settled .result) _ _ _ _ (rw begun at (settled .ensures)) (long (c .before .before .before .before .before .before)) (c .gather .ensures) _ _ refl refl))
+    let hand = c .before .before .before .before .before .before .before .before .before .before .before .before .before .before .before in
+    let begun = hand .before .before .before .before .before .before .start in
+    let write = hand .before .before .before .before .before .before .before .before .before .before in
+    let P = passed (past write) in
+    let handed = hand .hand in
+    let stage-is = stage-handed P _ (part write) (begun .result) (handed .result) (handed .last .1 .0) (handed .last .1 .1 .0) (handed .last .1 .1 .1 .1 .0)
+    (begun .ensures) (handed .ensures .0) (handed .ensures .1) (handed .ensures .2) (handed .ensures .3) in
+    let settles = rw stage-is at (settled .ensures) in
+    sent-done P (valid-kept _ (checked P .valid))
+    (stage (settled .result) (settled .last .1 .0) (settled .last .1 .1 .0) (settled .last .1 .1 .1 .1 .0)) _ settles
+    (gathered-record _ _ (settled .result) _ _ _ _ settles (long (c .before .before .before .before .before .before)) (c .gather .ensures) _ _ refl refl)
+    _ _ (wrote write .0) (wrote write .1)
 
 pub panel-send-spec : {M : Type 1} → statement M
 panel-send-spec =

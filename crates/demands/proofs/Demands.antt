@@ -49,7 +49,8 @@ pub record Demands (M : Type 1) : Type 2 where
   pub clock-promise : Gives 1 clock-kinds.ps clock-kinds.r clock-reads.Learnt ClockPromise
   -- Demand 1: the answer is a result or one of the numbers in document 01; a refusal gives back the record as it was and alters no byte.
   pub numbers : (p : Panel) (call : Call) → (defined p call .number ≡ 0) ⊎ (isRefusal (defined p call .number) ≡ true)
-  pub refusals : (p : Panel) (call : Call) → defined p call .number ≢ 0 → defined p call ≡ refused p (outputOf call) (bufferOf call) (defined p call .number)
+  pub refusals : (p : Panel) (call : Call) → defined p call .number ≢ 0
+      → defined p call ≡ refused p (outputOf call) (bufferOf call) (defined p call .number)
   -- Demand 2: a written frame reads back as its message, and bytes that read as a message are the very bytes written for it.
   pub written-reads : (m : Message) → readable width m ≡ true → reading width (frame width m) ≡ message m
   pub read-written : (bytes : List ℕ) (m : Message) → Bytes bytes → reading width bytes ≡ message m → frame width m ≡ bytes

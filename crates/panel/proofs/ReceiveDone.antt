@@ -88,7 +88,8 @@ module _ (p : Panel) (bytes output : List ℕ) (kept : Kept (p .slots) (p .count
       let m = messageIn width bytes in
       let same = panel-started p output kept in (
         settled-promised (recordOf p) (receive bytes output) passed slots (handedAtOnce (recordOf p) m) begun after settles
-            (receiving-taking (recordOf p) m ∙ ap (λ (r : Record). afterwards (handedAtOnce (recordOf p) m) (settle r)) (sym (taken .panel ∙ ap (λ (r : Record). taking r m) same)))
+            (receiving-taking (recordOf p) m
+            ∙ ap (λ (r : Record). afterwards (handedAtOnce (recordOf p) m) (settle r)) (sym (taken .panel ∙ ap (λ (r : Record). taking r m) same)))
             (rw same at (taken .output))
             (rw same at (taken .handed) ∙ zero-add (length (handedAtOnce (recordOf p) m)))
             (length-atOnce (recordOf p) bytes reads)

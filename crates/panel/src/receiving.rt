@@ -89,9 +89,10 @@ fn take(
     output: &mut [u8],
 ) -> Settling
     requires { ⌜ Reads (now frame) × Slots (now slots) × Kept (now slots) (s .waiting) × (s .places ≡ firstSlots 32) ⌝ }
-    requires { ⌜ ((s .waiting < 32) ⊎ (isReady (panelAt (now slots) (stage s (now marks) (now barrier) (now output))) (messageIn 4 (now frame)) ≡ true))
-        × (s .handed * 38 + 38 ≤ length (now output)) ⌝ }
-    ensures { λ r. ⌜ Taken (messageIn 4 (now (frame .entry))) (now (slots .entry)) (stage s (now (marks .entry)) (now (barrier .entry)) (now (output .entry)))
+    requires { ⌜ (s .waiting < 32) ⊎ (isReady (panelAt (now slots) (stage s (now marks) (now barrier) (now output))) (messageIn 4 (now frame)) ≡ true) ⌝ }
+    requires { ⌜ s .handed * 38 + 38 ≤ length (now output) ⌝ }
+    ensures { λ r. ⌜ Taken (messageIn 4 (now (frame .entry)))
+        (now (slots .entry)) (stage s (now (marks .entry)) (now (barrier .entry)) (now (output .entry)))
         (now (slots .exit)) (stage r (now (marks .exit)) (now (barrier .exit)) (now (output .exit))) ⌝ }
 {
     if ready(frame, marks, s.time) {

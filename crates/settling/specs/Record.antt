@@ -92,9 +92,13 @@ pub record Leaves (place : ℕ) (before after : Settling) : Type 0 where
   pub waiting : after .waiting + 1 ≡ before .waiting
   pub places : (k : ℕ) → k < after .waiting → getD (after .places) k 0 ≡ getD (before .places) (cond (ltb k place) k (k + 1)) 0
 
+-- the record once the message at a place has left the list and was handed
+abbrev pub handedFrom : Panel → ℕ → Panel
+handedFrom p place = hand (withWaiting p (without place (p .waiting))) (waitingAt p place)
+
 -- the message at a place has left the list and was handed
 pub record HandedAt (slots : List ℕ) (place : ℕ) (before after : Stage) : Type 0 where
-  pub panel : panelAt slots after ≡ hand (withWaiting (panelAt slots before) (without place (panelAt slots before .waiting))) (waitingAt (panelAt slots before) place)
+  pub panel : panelAt slots after ≡ handedFrom (panelAt slots before) place
   pub output : after .output ≡ over (before .output) (outputPlace (before .left)) (logRecord (waitingAt (panelAt slots before) place))
   pub handed : after .left .handed ≡ before .left .handed + 1
   pub waiting : after .left .waiting + 1 ≡ before .left .waiting

@@ -47,15 +47,19 @@ alive-one : (p : Panel) (m : Message) → alive p (m ∷ []) ≡ cond (lapsed p 
 unfolding alive
 alive-one p m = append-nil (cond (lapsed p (m .deadline)) [] (m ∷ []))
 
-module _ (slots : List ℕ) (time slot : ℕ) (places : List ℕ) (kept : ℕ) (chosen : Chosen slots time slot places kept) (reads : Reads (frameAt slots slot)) where
+module _ (slots : List ℕ) (time slot : ℕ) (places : List ℕ) (kept : ℕ) (chosen : Chosen slots time slot places kept)
+    (reads : Reads (frameAt slots slot)) where
+  abbrev m : Message
+  m = messageIn width (frameAt slots slot)
+
   -- one slot more: what is alive of it stands behind the others
   alive-suc : (p : Panel) → alive p (held slots (firstSlots (suc slot)))
-      ≡ alive p (held slots (firstSlots slot)) ++ cond (lapsed p (messageIn width (frameAt slots slot) .deadline)) [] (messageIn width (frameAt slots slot) ∷ [])
+      ≡ alive p (held slots (firstSlots slot)) ++ cond (lapsed p (m .deadline)) [] (m ∷ [])
   alive-suc p =
       ap (alive p) (held-suc slots slot) ∙ alive-append p (held slots (firstSlots slot)) (carried (frameAt slots slot) ∷ [])
-      ∙ rw (carried-reads (frameAt slots slot) reads, alive-one p (messageIn width (frameAt slots slot)))
+      ∙ rw (carried-reads (frameAt slots slot) reads, alive-one p m)
 
-  pub chosen-lapsed : messageIn width (frameAt slots slot) .deadline < time → Chosen slots time (suc slot) places kept
+  pub chosen-lapsed : m .deadline < time → Chosen slots time (suc slot) places kept
   unfolding lapsed
   chosen-lapsed late =
       record {
@@ -64,10 +68,10 @@ module _ (slots : List ℕ) (time slot : ℕ) (places : List ℕ) (kept : ℕ) (
         below = λ k lt. omega (arith, chosen .below k lt);
         reads = chosen .reads;
         messages = λ p e.
-            chosen .messages p e ∙ sym (alive-suc p ∙ rw (e, lt-ltb (messageIn width (frameAt slots slot) .deadline) time late, append-nil));
+            chosen .messages p e ∙ sym (alive-suc p ∙ rw (e, lt-ltb (m .deadline) time late, append-nil));
       }
 
-  pub chosen-alive : kept < length places → time ≤ messageIn width (frameAt slots slot) .deadline → Chosen slots time (suc slot) (set places kept slot) (suc kept)
+  pub chosen-alive : kept < length places → time ≤ m .deadline → Chosen slots time (suc slot) (set places kept slot) (suc kept)
   unfolding lapsed held
   chosen-alive room due =
       record {
@@ -78,7 +82,7 @@ module _ (slots : List ℕ) (time slot : ℕ) (places : List ℕ) (kept : ℕ) (
         messages = λ p e.
             ap (held slots) (take-suc-set places kept slot room) ∙ held-append slots (take kept places) (slot ∷ [])
             ∙ rw (chosen .messages p e, carried-reads (frameAt slots slot) reads)
-            (sym (alive-suc p ∙ rw (e, le-ltb (messageIn width (frameAt slots slot) .deadline) time due)));
+            (sym (alive-suc p ∙ rw (e, le-ltb (m .deadline) time due)));
       }
     where
       at : (k : ℕ) (P : ℕ → Type 0) → k < suc kept → (k < kept → P (getD places k 0)) → (k ≡ kept → P slot) → P (getD (set places kept slot) k 0)

@@ -77,6 +77,7 @@ pub framed-same : (bs others : List ℕ) → 2 ≤ length bs → 2 ≤ length ot
 unfolding framed
 framed-same bs others two also e =
     let k = numberAt bs 0 2 in
-    let n : numberAt others 0 2 ≡ k = sym (numberAt-take (2 + k) others (omega arith)) ∙ ap (λ (l : List ℕ). numberAt l 0 2) e ∙ numberAt-take (2 + k) bs (omega arith) in
+    let n : numberAt others 0 2 ≡ k
+    = sym (numberAt-take (2 + k) others (omega arith)) ∙ ap (λ (l : List ℕ). numberAt l 0 2) e ∙ numberAt-take (2 + k) bs (omega arith) in
     let f : take k (drop 2 others) ≡ take k (drop 2 bs) = sym (drop-take 2 k others also) ∙ ap (drop 2) e ∙ drop-take 2 k bs two in
     rw (n, f)

@@ -24,23 +24,32 @@ pub record Moving (before places : List ℕ) (slot : ℕ) (slots : List ℕ) : T
 pub moving-none : (before places : List ℕ) → Slots before → Moving before places 0 before
 moving-none before places size = record { moved = λ k lt. absurd (omega arith); others = λ k le. refl; size = size }
 
-module _ (before places : List ℕ) (slot count : ℕ) (slots : List ℕ) (moving : Moving before places slot slots) (listed : Listed before count places) (lt : slot < count) where
+module _ (before places : List ℕ) (slot count : ℕ) (slots : List ℕ) (moving : Moving before places slot slots)
+    (listed : Listed before count places) (lt : slot < count) where
+  abbrev place : ℕ
+  place = getD places slot 0
+
+  -- the length and the frame at the place
+  abbrev bytes : List ℕ
+  bytes = take (2 + lengthAt slots place) (drop (place * slotLength) slots)
+
   -- the frame at the place has not moved
-  pub reads-place : Reads (frameAt slots (getD places slot 0))
-  reads-place = rw (moving .others (getD places slot 0) (listed .rises slot lt)) (listed .reads slot lt)
+  pub reads-place : Reads (frameAt slots (place))
+  reads-place = rw (moving .others (place) (listed .rises slot lt)) (listed .reads slot lt)
 
   reads-moved : (k : ℕ) → k < slot → Reads (frameAt slots k)
   reads-moved k l = rw (moving .moved k l) (listed .reads k (omega arith))
 
-  one-more : (after : List ℕ) → Slots after → frameAt after slot ≡ frameAt slots (getD places slot 0)
-      → ((k : ℕ) → k < slot → frameAt after k ≡ frameAt slots k) → ((k : ℕ) → slot < k → frameAt after k ≡ frameAt slots k) → Moving before places (suc slot) after
+  one-more : (after : List ℕ) → Slots after → frameAt after slot ≡ frameAt slots (place)
+      → ((k : ℕ) → k < slot → frameAt after k ≡ frameAt slots k) → ((k : ℕ) → slot < k → frameAt after k ≡ frameAt slots k)
+      → Moving before places (suc slot) after
   one-more after size here low high =
       record {
         moved = λ k l.
             ⊎-elim
             (λ (e : suc k ≡ suc slot).
             let same : k ≡ slot = omega arith in
-            rw same (here ∙ moving .others (getD places slot 0) (listed .rises slot lt)))
+            rw same (here ∙ moving .others (place) (listed .rises slot lt)))
             (λ (l′ : suc k < suc slot). low k (omega arith) ∙ moving .moved k (omega arith))
             (eq-or-lt-of-le l);
         others = λ k l. high k l ∙ moving .others k (omega arith);
@@ -48,29 +57,25 @@ module _ (before places : List ℕ) (slot count : ℕ) (slots : List ℕ) (movin
       }
 
   -- a frame in its place already
-  pub moving-stays : getD places slot 0 ≤ slot → Moving before places (suc slot) slots
+  pub moving-stays : place ≤ slot → Moving before places (suc slot) slots
   moving-stays le =
-      let same : slot ≡ getD places slot 0 = omega (arith, listed .rises slot lt) in
+      let same : slot ≡ place = omega (arith, listed .rises slot lt) in
       one-more slots (moving .size) (ap (frameAt slots) same) (λ k l. refl) (λ k l. refl)
 
   -- a frame that moves up
-  pub moving-moves : slot < getD places slot 0
-      → Moving before places (suc slot)
-      (over slots (slot * slotLength) (take (2 + lengthAt slots (getD places slot 0)) (drop (getD places slot 0 * slotLength) slots)))
+  pub moving-moves : slot < place → Moving before places (suc slot) (over slots (slot * slotLength) bytes)
   moving-moves up =
-      let place = getD places slot 0 in
-      let n = 2 + lengthAt slots (getD places slot 0) in
-      let bs = take n (drop (place * slotLength) slots) in
+      let n = 2 + lengthAt slots place in
       let short = reads-lengthAt slots place reads-place in
       let low = listed .below slot lt in
       let size = moving .size in
-      let length-bs : length (take (2 + lengthAt slots (getD places slot 0)) (drop (getD places slot 0 * slotLength) slots)) ≡ 2 + lengthAt slots (getD places slot 0)
+      let length-bytes : length bytes ≡ 2 + lengthAt slots place
       = length-take-le n (drop (place * slotLength) slots) (rw length-drop (omega arith)) in
-      let room : slot * slotLength + length (take (2 + lengthAt slots (getD places slot 0)) (drop (getD places slot 0 * slotLength) slots)) ≤ length slots = omega arith in
-      let number : numberAt (take (2 + lengthAt slots (getD places slot 0)) (drop (getD places slot 0 * slotLength) slots)) 0 2 ≡ lengthAt slots (getD places slot 0)
+      let room : slot * slotLength + length bytes ≤ length slots = omega arith in
+      let number : numberAt bytes 0 2 ≡ lengthAt slots place
       = numberAt-take n (drop (place * slotLength) slots) (omega arith) ∙ sym (numberAt-drop slots (place * slotLength) 2) in
-      one-more (over slots (slot * slotLength) bs)
-      (length-over slots (slot * slotLength) bs room ∙ size)
-      (frameAt-here slots (slot * slotLength) bs room slot refl (omega (arith, length-bs, number)) ∙ framed-slot slots place (omega arith))
-      (λ k l. frameAt-before slots (slot * slotLength) bs room k (omega arith) (reads-lengthAt slots k (reads-moved k l)))
-      (λ k l. frameAt-behind slots (slot * slotLength) bs room k (omega arith))
+      one-more (over slots (slot * slotLength) bytes)
+      (length-over slots (slot * slotLength) bytes room ∙ size)
+      (frameAt-here slots (slot * slotLength) bytes room slot refl (omega (arith, length-bytes, number)) ∙ framed-slot slots place (omega arith))
+      (λ k l. frameAt-before slots (slot * slotLength) bytes room k (omega arith) (reads-lengthAt slots k (reads-moved k l)))
+      (λ k l. frameAt-behind slots (slot * slotLength) bytes room k (omega arith))

@@ -79,7 +79,8 @@ held-gathered before places count after room gathered =
 
 -- ---- a frame put behind the others
 
-module _ (slots : List ℕ) (count : ℕ) (frame : List ℕ) (size : Slots slots) (kept : Kept slots count) (room : count < 32) (short : length frame ≤ bufferLength) where
+module _ (slots : List ℕ) (count : ℕ) (frame : List ℕ) (size : Slots slots) (kept : Kept slots count) (room : count < 32)
+    (short : length frame ≤ bufferLength) where
   bs : List ℕ
   bs = bigEndian 2 (length frame) ++ frame
 

@@ -13,7 +13,7 @@ use Rattle.rules.specs.Calls.{sendDeadline}
 use Rattle.rules.specs.Refusals.{broken, sendChecks, messageChecks, receiveChecks, clockChecks}
 use Rattle.rules.proofs.Checks.{Valid, broken-false}
 use Rattle.slots.specs.Slots.{Reads}
-use Rattle.panel.specs.Record.{sendChecksOn, frameChecksOn, clockChecksOn}
+use Rattle.panel.specs.Steps.{sendChecksOn, frameChecksOn, clockChecksOn}
 
 pub sendChecks-on : (p : Panel) (payload : List ℕ) (lifetime : ℕ) (output buffer : List ℕ)
     → sendChecksOn (broken p) (length output) (length buffer) (length payload) (sendDeadline p lifetime) ≡ sendChecks p payload lifetime output buffer

@@ -24,7 +24,8 @@ use Rattle.slots.proofs.Held.{length-firstSlots}
 use Rattle.slots.proofs.Kept.{held-order}
 use Rattle.settling.specs.Record.{Stage, stage, panelAt, Settles}
 use Rattle.settling.proofs.Holding.{length-readable}
-use Rattle.panel.specs.Record.{recordOf, receivedResult, GivenBack, started, taking, handedAtOnce, Taken}
+use Rattle.panel.specs.Record.{recordOf, receivedResult, GivenBack}
+use Rattle.panel.specs.Steps.{started, taking, handedAtOnce, Taken}
 use Rattle.panel.specs.declared.Panel.{Panel}
 use Rattle.panel.proofs.Answering.{afterwards, settled-promised}
 

@@ -29,7 +29,8 @@ use Rattle.slots.specs.Slots.{Reads, Kept}
 use Rattle.slots.proofs.Kept.{held-order}
 use Rattle.settling.specs.declared.Settling.{Settling}
 use Rattle.settling.specs.Record.{oneHanded, Stage, stage, panelAt, outputPlace, Settles}
-use Rattle.panel.specs.Record.{recordOf, sentResult, GivenBack, started}
+use Rattle.panel.specs.Record.{recordOf, sentResult, GivenBack}
+use Rattle.panel.specs.Steps.{started}
 use Rattle.panel.specs.declared.Panel.{Panel}
 use Rattle.panel.proofs.Answering.{afterwards, settled-promised}
 

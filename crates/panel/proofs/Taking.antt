@@ -24,7 +24,7 @@ use Rattle.slots.proofs.Held.{carried-reads}
 use Rattle.slots.proofs.Kept.{listed-order, held-order, slots-put, held-put, kept-put}
 use Rattle.settling.specs.declared.Settling.{Settling}
 use Rattle.settling.specs.Record.{asking, oneHanded, Stage, stage, panelAt, outputPlace}
-use Rattle.panel.specs.Record.{taking, handedAtOnce, Taken}
+use Rattle.panel.specs.Steps.{taking, handedAtOnce, Taken}
 use Rattle.panel.proofs.MessageChecks.{ready-asking}
 
 -- ---- what is taken, by whether it is ready

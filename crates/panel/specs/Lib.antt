@@ -1,2 +1,3 @@
--- The record that the struct holds, and what the calls' answers say.
+-- The record that the struct holds, what the calls' answers say, and the steps between.
 pub mod Record
+pub mod Steps

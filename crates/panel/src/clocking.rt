@@ -9,7 +9,8 @@ use slots::gather;
 ghost use mathlib.Core.Path.{_≡_};
 ghost use Rattle.frame.specs.Refusal.{firstOf};
 ghost use Rattle.rules.specs.Results.{Promised, clock};
-ghost use Rattle.panel.specs.Record.{recordOf, clockedResult, GivenBack, clockChecksOn};
+ghost use Rattle.panel.specs.Record.{recordOf, clockedResult, GivenBack};
+ghost use Rattle.panel.specs.Steps.{clockChecksOn};
 
 // The number of the first check that turns down a clock reading, or 0: 26, 10, 25.
 fn clock_number(broken: bool, output: usize, reading: u32, time: u32) -> u8

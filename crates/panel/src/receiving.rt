@@ -26,7 +26,8 @@ ghost use Rattle.rules.specs.Refusals.{messageChecks};
 ghost use Rattle.rules.specs.Results.{Promised, receive};
 ghost use Rattle.slots.specs.Slots.{Reads, Slots, Kept, firstSlots};
 ghost use Rattle.settling.specs.Record.{stage, panelAt};
-ghost use Rattle.panel.specs.Record.{recordWith, recordOf, receivedResult, GivenBack, frameChecksOn, Taken};
+ghost use Rattle.panel.specs.Record.{recordWith, recordOf, receivedResult, GivenBack};
+ghost use Rattle.panel.specs.Steps.{frameChecksOn, Taken};
 
 // The number of the first check that turns down a frame before its message is looked at, or 0: 26, 10, 1 to 8.
 fn frame_number(broken: bool, output: usize, frame: &[u8]) -> u8

@@ -8,7 +8,8 @@ ghost use lib.ListN.{length};
 ghost use Rattle.frame.specs.Readable.{eachBelow};
 ghost use Rattle.rules.specs.Refusals.{broken as isBroken};
 ghost use Rattle.slots.specs.Slots.{Slots};
-ghost use Rattle.panel.specs.Record.{recordWith, started};
+ghost use Rattle.panel.specs.Record.{recordWith};
+ghost use Rattle.panel.specs.Steps.{started};
 
 // Whether each number is at most the limit.
 fn each_at_most(numbers: &[u32; 64], limit: u32) -> bool

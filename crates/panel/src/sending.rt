@@ -12,7 +12,8 @@ ghost use mathlib.Core.List.{[]};
 ghost use Rattle.frame.specs.Refusal.{firstOf};
 ghost use Rattle.rules.specs.Calls.{sendDeadline};
 ghost use Rattle.rules.specs.Results.{Promised, send};
-ghost use Rattle.panel.specs.Record.{recordWith, recordOf, sentResult, GivenBack, sendChecksOn};
+ghost use Rattle.panel.specs.Record.{recordWith, recordOf, sentResult, GivenBack};
+ghost use Rattle.panel.specs.Steps.{sendChecksOn};
 
 // The larger of time + lifetime and high + 1; lifetime 0 means 1,200.
 fn send_deadline(time: u32, high: u32, lifetime: u16) -> u64

@@ -9,7 +9,8 @@ use Rattle.rules.specs.Refusals.{broken, clockChecks}
 use Rattle.rules.specs.Results.{refused, clock}
 use Rattle.rules.proofs.Checks.{ClockPassed, clock-passed}
 use Rattle.settling.specs.Record.{stage}
-use Rattle.panel.specs.Record.{recordOf, clockChecksOn}
+use Rattle.panel.specs.Record.{recordOf}
+use Rattle.panel.specs.Steps.{clockChecksOn}
 use Rattle.panel.proofs.Checking.{clockChecks-on}
 use Rattle.panel.proofs.Answering.{refused-promised, valid-kept, gathered-record}
 use Rattle.panel.proofs.ClockDone.{clocked-done}

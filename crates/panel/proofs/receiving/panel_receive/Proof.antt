@@ -12,7 +12,8 @@ use Rattle.rules.specs.Refusals.{broken, messageChecks, receiveChecks}
 use Rattle.rules.specs.Results.{refused, receive}
 use Rattle.rules.proofs.Checks.{ReceivePassed, receive-passed}
 use Rattle.settling.specs.Record.{stage}
-use Rattle.panel.specs.Record.{recordOf, frameChecksOn}
+use Rattle.panel.specs.Record.{recordOf}
+use Rattle.panel.specs.Steps.{frameChecksOn}
 use Rattle.panel.proofs.Checking.{frame-refused, frame-through, through-reads, through-valid}
 use Rattle.panel.proofs.Answering.{refused-promised, valid-kept, gathered-record}
 use Rattle.panel.proofs.ReceiveDone.{panel-started, taken-own, taken-time, room, received-done}

@@ -18,7 +18,8 @@ use Rattle.rules.specs.Refusals.{broken, sendChecks}
 use Rattle.rules.specs.Results.{refused, send}
 use Rattle.slots.proofs.Kept.{listed-order}
 use Rattle.settling.specs.Record.{stage}
-use Rattle.panel.specs.Record.{recordOf, sendChecksOn}
+use Rattle.panel.specs.Record.{recordOf}
+use Rattle.panel.specs.Steps.{sendChecksOn}
 use Rattle.panel.proofs.Checking.{sendChecks-on}
 use Rattle.panel.proofs.Answering.{refused-promised, valid-kept, gathered-record}
 use Rattle.panel.proofs.SendDone.{Passed, checked, frame-fits, length-written, buffer-written, frame-reads, stage-handed, sent-done}

@@ -1,0 +1,56 @@
+-- What the private functions promise. No promise of a public call cites it.
+use Prim.Native.Nat.{ℕ, _+_}
+use mathlib.Core.Path.{_≡_}
+use mathlib.Core.Bool.{Bool, cond, _||_}
+use mathlib.Core.List.{List, [], _∷_, _++_}
+use lib.ListN.{length}
+use lib.Dec.{ltb}
+use Rattle.numbers.specs.Buffer.{over}
+use Rattle.frame.specs.Message.{Message}
+use Rattle.frame.specs.Reading.{checks}
+use Rattle.rules.specs.Sizes.{width, lastDeadline, outputLength, bufferLength}
+use Rattle.rules.specs.Panel.{Panel as Record, ready}
+use Rattle.rules.specs.Handing.{hand, logRecords}
+use Rattle.rules.specs.Settling.{withWaiting}
+use Rattle.slots.specs.Slots.{Slots, Listed, firstSlots}
+use Rattle.settling.specs.declared.Settling.{Settling}
+use Rattle.settling.specs.Record.{Stage, panelAt, outputPlace}
+
+-- ---- the checks of each call on what they ask for (`sendChecks`, `receiveChecks` and `clockChecks` of the rules are these)
+
+abbrev pub sendChecksOn : Bool → ℕ → ℕ → ℕ → ℕ → List (Bool × ℕ)
+sendChecksOn broken output buffer payload deadline =
+    (broken, 26)
+    ∷ (ltb output outputLength || ltb buffer bufferLength, 10)
+    ∷ (ltb 32 payload, 9)
+    ∷ (ltb lastDeadline deadline, 24)
+    ∷ []
+
+-- those before the checks of the message that was read
+abbrev pub frameChecksOn : Bool → ℕ → List ℕ → List (Bool × ℕ)
+frameChecksOn broken output bytes = (broken, 26) ∷ (ltb output outputLength, 10) ∷ checks width bytes
+
+abbrev pub clockChecksOn : Bool → ℕ → ℕ → ℕ → List (Bool × ℕ)
+clockChecksOn broken output reading time = (broken, 26) ∷ (ltb output outputLength, 10) ∷ (ltb reading time, 25) ∷ []
+
+-- ---- the functions between
+
+-- the record as it begins to settle: all of the first slots are listed, nothing was handed
+abbrev pub started : ℕ → ℕ → ℕ → ℕ → Settling
+started own time high waiting = record { own = own; time = time; high = high; waiting = waiting; places = firstSlots 32; handed = 0 }
+
+-- the record that has taken a message, and what was handed: that message, if it was ready
+abbrev pub taking : Record → Message → Record
+taking p m = cond (ready p m) (hand p m) (withWaiting p (p .waiting ++ (m ∷ [])))
+
+abbrev pub handedAtOnce : Record → Message → List Message
+handedAtOnce p m = cond (ready p m) (m ∷ []) []
+
+-- a message was taken
+pub record Taken (m : Message) (slots : List ℕ) (before : Stage) (slots′ : List ℕ) (after : Stage) : Type 0 where
+  pub panel : panelAt slots′ after ≡ taking (panelAt slots before) m
+  pub output : after .output ≡ over (before .output) (outputPlace (before .left)) (logRecords (handedAtOnce (panelAt slots before) m))
+  pub handed : after .left .handed ≡ before .left .handed + length (handedAtOnce (panelAt slots before) m)
+  pub one-more : after .left .handed + after .left .waiting ≡ before .left .handed + before .left .waiting + 1
+  pub listed : Listed slots′ (after .left .waiting) (after .left .places)
+  pub size : Slots slots′

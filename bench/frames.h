@@ -1,0 +1,30 @@
+/* Random messages and frames, for a panel that is to receive them. */
+#ifndef FRAMES_H
+#define FRAMES_H
+
+#include "panel.h"
+#include "reference.h"
+
+enum { BYTES_MAX = 512 };
+
+typedef struct {
+    size_t n;
+    uint8_t bytes[BYTES_MAX];
+} Bytes;
+
+/* Keeps a frame that was sent, for random_frame to give it again. */
+void remember_frame(const Bytes *frame);
+void forget_frames(void);
+
+uint64_t random_mask(void);
+
+/* A readable message; its entries lie about the marks and about the time. */
+void random_message(Message *m, const Panel *p, uint8_t source,
+                    uint32_t deadline, uint64_t mask);
+
+/* Spoils a frame in one way, mostly by a single field. */
+void damage(Bytes *b);
+
+void random_frame(Bytes *b, const Panel *p);
+
+#endif

@@ -1,0 +1,60 @@
+/*
+ * The causal message module of the dryer panel, written by hand in C.
+ * Every call works in place on the record behind its pointer and answers
+ * 0 or the refusal number; a refused call changes nothing and its count
+ * and length are 0.
+ */
+#ifndef REFERENCE_H
+#define REFERENCE_H
+
+#include <stddef.h>
+#include <stdint.h>
+
+enum {
+    PANELS = 64,
+    WAITING_MAX = 32,
+    PAYLOAD_MAX = 32,
+    FRAME_MIN = 19,
+    FRAME_MAX = 307,
+    LOG_RECORD = 38,
+    OUTPUT_MIN = (WAITING_MAX + 1) * LOG_RECORD
+};
+
+typedef struct {
+    uint32_t deadline;
+    uint8_t source;
+    uint8_t length;
+    uint64_t mask;
+    uint32_t entries[PANELS]; /* packed: one per mask bit, lowest panel first */
+    uint8_t payload[PAYLOAD_MAX];
+} Message;
+
+typedef struct {
+    uint8_t own;
+    uint32_t time;
+    uint32_t high;
+    size_t count;
+    uint32_t marks[PANELS];
+    uint32_t barrier[PANELS];
+    Message waiting[WAITING_MAX]; /* in the order taken */
+} Record;
+
+uint8_t c_fresh(Record *r, uint8_t own);
+uint8_t c_send(Record *r, const uint8_t *payload, size_t n, uint16_t lifetime,
+               uint8_t *output, size_t out_n, uint8_t *buffer, size_t buf_n,
+               size_t *count, size_t *length);
+uint8_t c_receive(Record *r, const uint8_t *frame, size_t n,
+                  uint8_t *output, size_t out_n, size_t *count);
+uint8_t c_clock(Record *r, uint32_t time, uint8_t *output, size_t out_n,
+                size_t *count);
+
+/* The refusal number of reading a frame, or 0. */
+uint8_t c_frame_check(const uint8_t *frame, size_t n);
+
+/* Reads a frame into *m, whose content is open if the frame is refused. */
+uint8_t c_frame_read(const uint8_t *frame, size_t n, Message *m);
+
+/* Writes the frame of a readable message and gives its length. */
+size_t c_frame_write(const Message *m, uint8_t *frame);
+
+#endif

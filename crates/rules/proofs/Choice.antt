@@ -64,7 +64,7 @@ choice-some p (x ∷ ms) other (suc place) e =
 
 -- ---- it is the ready one of lowest deadline, then lowest source, then earliest in the list
 
-sooner-true : (a b : Message) → sooner a b ≡ true → (a .deadline < b .deadline) ⊎ ((a .deadline ≡ b .deadline) × (a .source < b .source))
+pub sooner-true : (a b : Message) → sooner a b ≡ true → (a .deadline < b .deadline) ⊎ ((a .deadline ≡ b .deadline) × (a .source < b .source))
 unfolding sooner
 sooner-true a b e =
     ⊎-elim (λ l. inl (ltb-true (a .deadline) (b .deadline) l))
@@ -73,7 +73,7 @@ sooner-true a b e =
     inr (eqb-true (a .deadline) (b .deadline) d, ltb-true (a .source) (b .source) s))
     (or-either (ltb (a .deadline) (b .deadline)) (eqb (a .deadline) (b .deadline) && ltb (a .source) (b .source)) e)
 
-sooner-false : (a b : Message) → sooner a b ≡ false → (b .deadline < a .deadline) ⊎ ((b .deadline ≡ a .deadline) × (b .source ≤ a .source))
+pub sooner-false : (a b : Message) → sooner a b ≡ false → (b .deadline < a .deadline) ⊎ ((b .deadline ≡ a .deadline) × (b .source ≤ a .source))
 unfolding sooner
 sooner-false a b e =
     let (d, s) = or-neither (ltb (a .deadline) (b .deadline)) (eqb (a .deadline) (b .deadline) && ltb (a .source) (b .source)) e in

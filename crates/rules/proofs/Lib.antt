@@ -5,6 +5,7 @@ pub mod Ready
 pub mod Raise
 pub mod WaitingList
 pub mod Choice
+pub mod ChoiceUpwards
 pub mod Settling
 pub mod LogRecords
 pub mod Checks

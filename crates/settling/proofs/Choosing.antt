@@ -1,109 +1,115 @@
 -- Laws of the choice: the first among those looked at, and one message more. Assumes nothing.
-use Prim.Native.Nat.{ℕ, suc, _+_, _≤_, _<_}
+use Prim.Native.Nat.{ℕ, suc, _≤_, _<_}
 use native.Mathlib.Omega.{arith}
-use native.Mathlib.Nat.{add-zero}
 use mathlib.Core.Path.{_≡_, refl, sym, ap, _∙_}
-use mathlib.Core.Bool.{Bool, true, false, cond, not, _&&_, _||_, true≢false}
+use mathlib.Core.Bool.{Bool, true, false, cond, _&&_, _||_, true≢false}
 use mathlib.Core.Option.{Option, none, some}
-use mathlib.Core.List.{List, [], _∷_}
-use lib.ListN.{length, getD, drop, drop-of-length-le}
-use lib.Seq.{drop-cons}
+use mathlib.Core.List.{List, [], _∷_, _++_}
+use lib.ListN.{length, getD, take}
+use lib.Seq.{take-suc, length-take-le, take-all}
 use lib.Dec.{ltb}
 use borrow.Author.Tests.{le-ltb, eq-eqb, ne-eqb}
 use Rattle.frame.specs.Message.{Message, messageOf}
 use Rattle.rules.specs.Panel.{Panel, ready, met, lapsed}
 use Rattle.rules.specs.Settling.{sooner, chosen, choice}
 use Rattle.rules.proofs.Choice.{choice-some, getD-default}
-use Rattle.settling.specs.Record.{asking, firstIn, soonerThan, considered}
+use Rattle.rules.proofs.ChoiceUpwards.{getD-before, getD-last, chosenLast, choice-snoc}
+use Rattle.settling.specs.Record.{asking, firstIn, goesBefore, considered}
 use Rattle.settling.specs.declared.First.{First}
 
--- ---- whether the one found is sooner
+-- ---- whether a message goes before the one found
 
 or-false : (b : Bool) → (b || false) ≡ b
 or-false true = refl
 or-false false = refl
 
-pub soonerThan-none : (first : First) (deadline source : ℕ) → first .found ≡ false → soonerThan first deadline source ≡ false
-soonerThan-none first deadline source e = rw e
+module _ (deadline source : ℕ) (first : First) where
+  pub goesBefore-none : first .found ≡ false → goesBefore deadline source first ≡ true
+  goesBefore-none e = rw e
 
-pub soonerThan-deadline : (first : First) (deadline source : ℕ) → first .found ≡ true → (first .deadline ≡ deadline → ⊥)
-    → soonerThan first deadline source ≡ ltb (first .deadline) deadline
-soonerThan-deadline first deadline source e h = rw (e, ne-eqb (first .deadline) deadline h) (or-false (ltb (first .deadline) deadline))
+  pub goesBefore-deadline : first .found ≡ true → (deadline ≡ first .deadline → ⊥) → goesBefore deadline source first ≡ ltb deadline (first .deadline)
+  goesBefore-deadline e h = rw (e, ne-eqb deadline (first .deadline) h) (or-false (ltb deadline (first .deadline)))
 
-pub soonerThan-source : (first : First) (deadline source : ℕ) → first .found ≡ true → first .deadline ≡ deadline
-    → soonerThan first deadline source ≡ ltb (first .source) source
-soonerThan-source first deadline source e h =
-    rw (e, eq-eqb (first .deadline) deadline h, le-ltb (first .deadline) deadline (omega arith))
+  pub goesBefore-source : first .found ≡ true → deadline ≡ first .deadline → goesBefore deadline source first ≡ ltb source (first .source)
+  goesBefore-source e h = rw (e, eq-eqb deadline (first .deadline) h, le-ltb deadline (first .deadline) (omega arith))
 
--- ---- one message more, ahead of those looked at
+-- ---- one message more, behind those looked at
 
 module _ (r : Bool) (place : ℕ) (m : Message) (first : First) where
-  pub considered-sooner : soonerThan first (m .deadline) (m .source) ≡ true → considered r place m first ≡ first
-  considered-sooner e = rw e
+  pub considered-later : goesBefore (m .deadline) (m .source) first ≡ false → considered r place m first ≡ first
+  considered-later e = rw e
 
   pub considered-unready : r ≡ false → considered r place m first ≡ first
-  considered-unready e = rw e (go (not (soonerThan first (m .deadline) (m .source))))
+  considered-unready e = rw e (go (goesBefore (m .deadline) (m .source) first))
     where
       go : (b : Bool) → cond (b && false) (record { found = true; place = place; deadline = m .deadline; source = m .source }) first ≡ first
       go true = refl
       go false = refl
 
-  pub considered-ready : soonerThan first (m .deadline) (m .source) ≡ false → r ≡ true
+  pub considered-ready : goesBefore (m .deadline) (m .source) first ≡ true → r ≡ true
       → considered r place m first ≡ record { found = true; place = place; deadline = m .deadline; source = m .source }
   considered-ready e f = rw (e, f)
 
--- ---- the message ahead of those looked at, where the first of them is their choice
+-- ---- the message behind those looked at, where the first of them is their choice
 
--- what is found from a place of the list on
-abbrev pub firstFrom : Panel → List Message → ℕ → First
-firstFrom p ms at = firstIn at (drop at ms) (choice p (drop at ms))
+-- what is found among the messages before a place of the list
+abbrev pub firstBelow : Panel → List Message → ℕ → First
+firstBelow p ms place = firstIn (take place ms) (choice p (take place ms))
 
-firstIn-cons : (at : ℕ) (m : Message) (ms : List Message) (later : ℕ) → firstIn (suc at) ms (some later) ≡ firstIn at (m ∷ ms) (some (suc later))
-firstIn-cons at m ms later =
-    let x = getD ms later (messageOf 0 0 [] []) in
-    let e : suc at + later ≡ at + suc later = omega arith in
-    ap {B = First} (λ (k : ℕ). record { found = true; place = k; deadline = x .deadline; source = x .source }) e
+firstIn-before : (ms : List Message) (m : Message) (place : ℕ) → place < length ms → firstIn (ms ++ (m ∷ [])) (some place) ≡ firstIn ms (some place)
+firstIn-before ms m place lt =
+    ap {B = First} (λ (x : Message). record { found = true; place = place; deadline = x .deadline; source = x .source })
+    (getD-before ms m (messageOf 0 0 [] []) place lt)
 
-firstIn-head : (at : ℕ) (m : Message) (ms : List Message)
-    → _≡_ {A = First} (record { found = true; place = at; deadline = m .deadline; source = m .source }) (firstIn at (m ∷ ms) (some 0))
-firstIn-head at m ms =
-    ap {B = First} (λ (k : ℕ). record { found = true; place = k; deadline = m .deadline; source = m .source }) (sym (add-zero at))
+firstIn-last : (ms : List Message) (m : Message)
+    → firstIn (ms ++ (m ∷ [])) (some (length ms)) ≡ record { found = true; place = length ms; deadline = m .deadline; source = m .source }
+firstIn-last ms m =
+    ap {B = First} (λ (x : Message). record { found = true; place = length ms; deadline = x .deadline; source = x .source })
+    (getD-last ms m (messageOf 0 0 [] []))
 
-soonerThan-some : (at : ℕ) (m : Message) (ms : List Message) (later : ℕ) → later < length ms
-    → soonerThan (firstIn at ms (some later)) (m .deadline) (m .source) ≡ sooner (getD ms later m) m
+goesBefore-some : (ms : List Message) (m : Message) (place : ℕ) → place < length ms
+    → goesBefore (m .deadline) (m .source) (firstIn ms (some place)) ≡ sooner m (getD ms place m)
 unfolding sooner
-soonerThan-some at m ms later h = ap (λ (x : Message). sooner x m) (getD-default ms (messageOf 0 0 [] []) m later h)
+goesBefore-some ms m place lt = ap (sooner m) (getD-default ms (messageOf 0 0 [] []) m place lt)
 
-considered-choice : (p : Panel) (at : ℕ) (m : Message) (ms : List Message)
-    → considered (ready p m) at m (firstIn (suc at) ms (choice p ms)) ≡ firstIn at (m ∷ ms) (choice p (m ∷ ms))
-unfolding choice chosen
-considered-choice p at m ms = go (ready p m) (choice p ms) refl
+considered-choice : (p : Panel) (ms : List Message) (m : Message)
+    → considered (ready p m) (length ms) m (firstIn ms (choice p ms)) ≡ firstIn (ms ++ (m ∷ [])) (choice p (ms ++ (m ∷ [])))
+unfolding chosenLast
+considered-choice p ms m = go (ready p m) (choice p ms) refl ∙ ap (firstIn (ms ++ (m ∷ []))) (sym (choice-snoc p ms m))
   where
-    against : (b : Bool) (later : ℕ)
-        → cond (not b && true) (record { found = true; place = at; deadline = m .deadline; source = m .source }) (firstIn (suc at) ms (some later))
-        ≡ firstIn at (m ∷ ms) (cond b (some (suc later)) (some 0))
-    against true later = firstIn-cons at m ms later
-    against false later = firstIn-head at m ms
+    against : (b : Bool) (place : ℕ) → place < length ms
+        → cond (b && true) (record { found = true; place = length ms; deadline = m .deadline; source = m .source }) (firstIn ms (some place))
+        ≡ firstIn (ms ++ (m ∷ [])) (cond b (some (length ms)) (some place))
+    against true place lt = sym (firstIn-last ms m)
+    against false place lt = sym (firstIn-before ms m place lt)
 
-    go : (b : Bool) (o : Option ℕ) → choice p ms ≡ o → considered b at m (firstIn (suc at) ms o) ≡ firstIn at (m ∷ ms) (chosen b m ms o)
-    go true none e = firstIn-head at m ms
-    go true (some later) e =
-        rw (soonerThan-some (suc at) m ms later (choice-some p ms m later e .0)) (against (sooner (getD ms later m) m) later)
+    go : (b : Bool) (o : Option ℕ) → choice p ms ≡ o → considered b (length ms) m (firstIn ms o) ≡ firstIn (ms ++ (m ∷ [])) (chosenLast b m ms o)
     go false none e = refl
-    go false (some later) e = considered-unready false at m (firstIn (suc at) ms (some later)) refl ∙ firstIn-cons at m ms later
+    go false (some place) e =
+        considered-unready false (length ms) m (firstIn ms (some place)) refl ∙ sym (firstIn-before ms m place (choice-some p ms m place e .0))
+    go true none e = sym (firstIn-last ms m)
+    go true (some place) e =
+        let lt = choice-some p ms m place e .0 in
+        rw (goesBefore-some ms m place lt) (against (sooner m (getD ms place m)) place lt)
 
--- the message at a place, against those behind it
-pub firstFrom-suc : (p : Panel) (ms : List Message) (at : ℕ) (m : Message) → at < length ms → getD ms at m ≡ m
-    → considered (ready p m) at m (firstFrom p ms (suc at)) ≡ firstFrom p ms at
-firstFrom-suc p ms at m h e =
-    let behind : drop at ms ≡ m ∷ drop (suc at) ms = drop-cons ms at m h ∙ ap (λ (x : Message). x ∷ drop (suc at) ms) e in
-    considered-choice p at m (drop (suc at) ms) ∙ ap (λ (l : List Message). firstIn at l (choice p l)) (sym behind)
+-- the message at a place, against those before it
+pub firstBelow-suc : (p : Panel) (ms : List Message) (place : ℕ) (m : Message) → place < length ms → getD ms place m ≡ m
+    → considered (ready p m) place m (firstBelow p ms place) ≡ firstBelow p ms (suc place)
+firstBelow-suc p ms place m lt e =
+    let more : take (suc place) ms ≡ take place ms ++ (m ∷ []) = take-suc ms place m lt ∙ ap (λ (x : Message). take place ms ++ (x ∷ [])) e in
+    let size : length (take place ms) ≡ place = length-take-le place ms (omega arith) in
+    ap (λ (k : ℕ). considered (ready p m) k m (firstBelow p ms place)) (sym size)
+    ∙ considered-choice p (take place ms) m
+    ∙ ap (λ (l : List Message). firstIn l (choice p l)) (sym more)
+
+-- before the first place
+pub firstBelow-none : (p : Panel) (ms : List Message) → firstBelow p ms 0 ≡ record { found = false; place = 0; deadline = 0; source = 0 }
+unfolding choice
+firstBelow-none p ms = refl
 
 -- at the end of the list
-pub firstFrom-end : (p : Panel) (ms : List Message) (at : ℕ) → length ms ≤ at
-    → firstFrom p ms at ≡ record { found = false; place = 0; deadline = 0; source = 0 }
-unfolding choice
-firstFrom-end p ms at h = ap (λ (l : List Message). firstIn at l (choice p l)) (drop-of-length-le ms h)
+pub firstBelow-all : (p : Panel) (ms : List Message) (place : ℕ) → length ms ≤ place → firstBelow p ms place ≡ firstIn ms (choice p ms)
+firstBelow-all p ms place le = ap (λ (l : List Message). firstIn l (choice p l)) (take-all place ms le)
 
 -- ---- what is found, and the choice
 
@@ -113,15 +119,15 @@ unfolding choice ready met lapsed
 choice-asking p [] = refl
 choice-asking p (m ∷ ms) = ap (chosen (ready p m) m ms) (choice-asking p ms)
 
-found-none : (ms : List Message) (o : Option ℕ) → firstIn 0 ms o .found ≡ false → o ≡ none
+found-none : (ms : List Message) (o : Option ℕ) → firstIn ms o .found ≡ false → o ≡ none
 found-none ms none e = refl
 found-none ms (some place) e = absurd (true≢false e)
 
-found-some : (ms : List Message) (o : Option ℕ) → firstIn 0 ms o .found ≡ true → o ≡ some (firstIn 0 ms o .place)
+found-some : (ms : List Message) (o : Option ℕ) → firstIn ms o .found ≡ true → o ≡ some (firstIn ms o .place)
 found-some ms none e = absurd (true≢false (sym e))
-found-some ms (some place) e = ap {B = Option ℕ} some (omega arith)
+found-some ms (some place) e = refl
 
-module _ (p : Panel) (ms : List Message) (first : First) (is : first ≡ firstIn 0 ms (choice (asking (p .marks) (p .time)) ms)) where
+module _ (p : Panel) (ms : List Message) (first : First) (is : first ≡ firstIn ms (choice (asking (p .marks) (p .time)) ms)) where
   pub firstIn-none : first .found ≡ false → choice p ms ≡ none
   firstIn-none e = choice-asking p ms ∙ found-none ms _ (ap (λ (x : First). x .found) (sym is) ∙ e)
 

@@ -1,7 +1,7 @@
 -- Laws of the messages that the slots listed hold. Assumes nothing.
 use Prim.Native.Nat.{ℕ, suc, _≤_, _<_}
 use native.Mathlib.Omega.{arith}
-use mathlib.Core.Path.{_≡_, sym, ap, _∙_}
+use mathlib.Core.Path.{_≡_, ap, _∙_}
 use mathlib.Core.List.{List}
 use lib.ListN.{length, getD, take, List·getD-map}
 use lib.Seq.{length-take-le, getD-take}
@@ -17,7 +17,7 @@ use Rattle.rules.proofs.Choice.{getD-default}
 use Rattle.slots.proofs.Held.{carried-reads, length-held}
 use Rattle.settling.specs.Record.{considered}
 use Rattle.settling.specs.declared.First.{First}
-use Rattle.settling.proofs.Choosing.{firstFrom, firstFrom-suc}
+use Rattle.settling.proofs.Choosing.{firstBelow, firstBelow-suc}
 
 -- as many as are listed
 pub length-listed : (slots : List ℕ) (count : ℕ) (places : List ℕ) → count ≤ length places → length (held slots (take count places)) ≡ count
@@ -43,18 +43,17 @@ held-at slots count places k other listed h lt =
     ∙ ap (λ (slot : ℕ). carried (frameAt slots slot)) (getD-take count places k 0 lt)
     ∙ carried-reads (frameAt slots (getD places k 0)) (listed .reads k lt)
 
--- the message at a place of the list, against the choice among those behind it
-module _ (p : Panel) (slots : List ℕ) (count : ℕ) (places : List ℕ) (at : ℕ) (frame : List ℕ) (is : frame ≡ frameAt slots (getD places at 0)) where
+-- the message at a place of the list, against the choice among those before it
+module _ (p : Panel) (slots : List ℕ) (count : ℕ) (places : List ℕ) (place : ℕ) where
   abbrev ms : List Message
   ms = held slots (take count places)
 
   abbrev m : Message
-  m = messageIn width frame
+  m = messageIn width (frameAt slots (getD places place 0))
 
-  pub firstFrom-listed : Listed slots count places → count ≤ length places → at < count → (place : ℕ) (first next : First) → place ≡ suc at
-      → first ≡ firstFrom p ms place → next ≡ considered (ready p m) at m first → next ≡ firstFrom p ms at
-  firstFrom-listed listed h lt place first next e before after =
+  pub firstBelow-listed : Listed slots count places → count ≤ length places → place < count → (first next : First)
+      → first ≡ firstBelow p ms place → next ≡ considered (ready p m) place m first → next ≡ firstBelow p ms (suc place)
+  firstBelow-listed listed h lt first next before after =
       after
-      ∙ ap (considered (ready p m) at m) (before ∙ ap (firstFrom p ms) e)
-      ∙ firstFrom-suc p ms at m (omega (arith, length-listed slots count places h))
-      (held-at slots count places at m listed h lt ∙ ap (messageIn width) (sym is))
+      ∙ ap (considered (ready p m) place m) before
+      ∙ firstBelow-suc p ms place m (omega (arith, length-listed slots count places h)) (held-at slots count places place m listed h lt)

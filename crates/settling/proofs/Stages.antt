@@ -99,7 +99,7 @@ module _ (slots : List ℕ) (s : Stage) where
 -- a step as the code takes it, from what `choice` found
 module _ (slots : List ℕ) (s : Stage) (listed : Listed slots (s .left .waiting) (s .left .places))
     (long : length (s .left .places) ≡ 32) (first : First)
-    (is : first ≡ firstIn 0 (panelAt slots s .waiting) (choice (asking (s .marks) (s .left .time)) (panelAt slots s .waiting))) where
+    (is : first ≡ firstIn (panelAt slots s .waiting) (choice (asking (s .marks) (s .left .time)) (panelAt slots s .waiting))) where
   pub settles-none : first .found ≡ false → Settles slots s s
   settles-none e = settles-end slots s listed (firstIn-none (panelAt slots s) (panelAt slots s .waiting) first is e)
 

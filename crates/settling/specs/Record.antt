@@ -22,22 +22,22 @@ asking marks time = record { own = 0; time = time; high = 0; marks = marks; barr
 
 -- ---- the choice
 
--- what is found where that place of the list ms is chosen, which begins at a place of the whole list
-abbrev pub firstIn : ℕ → List Message → Option ℕ → First
-firstIn at ms none = record { found = false; place = 0; deadline = 0; source = 0 }
-firstIn at ms (some place) =
+-- what is found where that place of the list is chosen
+abbrev pub firstIn : List Message → Option ℕ → First
+firstIn ms none = record { found = false; place = 0; deadline = 0; source = 0 }
+firstIn ms (some place) =
     let m = getD ms place (messageOf 0 0 [] []) in
-    record { found = true; place = at + place; deadline = m .deadline; source = m .source }
+    record { found = true; place = place; deadline = m .deadline; source = m .source }
 
--- one was found, of lower deadline, then of lower source
-abbrev pub soonerThan : First → ℕ → ℕ → Bool
-soonerThan first deadline source =
-    first .found && (ltb (first .deadline) deadline || eqb (first .deadline) deadline && ltb (first .source) source)
+-- a message goes before the one found: it has a lower deadline, then a lower source, or none was found
+abbrev pub goesBefore : ℕ → ℕ → First → Bool
+goesBefore deadline source first =
+    not (first .found) || (ltb deadline (first .deadline) || eqb deadline (first .deadline) && ltb source (first .source))
 
--- a message at a place against the first among the later ones: it is the first, unless it is not ready or that one is sooner
+-- a message at a place against the first among the earlier ones: it is the first, where it is ready and goes before that one
 abbrev pub considered : Bool → ℕ → Message → First → First
 considered ready place m first =
-    cond (not (soonerThan first (m .deadline) (m .source)) && ready)
+    cond (goesBefore (m .deadline) (m .source) first && ready)
     (record { found = true; place = place; deadline = m .deadline; source = m .source })
     first
 

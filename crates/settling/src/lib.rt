@@ -5,8 +5,10 @@ use numbers::number_at;
 use numbers::put_bytes;
 use numbers::put_number;
 use slots::deadline;
+use slots::deadline_at;
 use slots::frame_at;
 use slots::source;
+use slots::source_at;
 ghost use mathlib.Core.Path.{_≡_};
 ghost use mathlib.Core.List.{[], _∷_};
 ghost use Prim.Native.Nat.{_+_, _*_, _≤_, _<_, max};
@@ -18,7 +20,8 @@ ghost use Rattle.rules.specs.Panel.{ready as isReady};
 ghost use Rattle.rules.specs.Handing.{raise, logRecord};
 ghost use Rattle.rules.specs.Settling.{choice as choiceIn};
 ghost use Rattle.slots.specs.Slots.{Reads, Slots, Listed, held};
-ghost use Rattle.settling.specs.Record.{asking, firstIn, soonerThan, considered, oneHanded, Leaves, stage, HandedAt, Settles};
+ghost use Rattle.slots.specs.Slots.{frameAt as frameIn};
+ghost use Rattle.settling.specs.Record.{asking, firstIn, goesBefore, considered, oneHanded, Leaves, stage, HandedAt, Settles};
 
 // The record while it settles, but for what is lent: which slots are still waiting, so many of the
 // places in order, and how many log records have been written.
@@ -72,31 +75,39 @@ pub fn ready(frame: &[u8], marks: &[u32; 64], time: u32) -> bool
     true
 }
 
-// Whether the one found goes before a message that stands ahead of it in the list.
-fn is_sooner(first: First, deadline: u32, source: u8) -> bool
-    ensures { λ r. ⌜ r ≡ soonerThan first deadline source ⌝ }
+// Whether a message goes before the one found.
+fn goes_before(deadline: u32, source: u8, first: First) -> bool
+    ensures { λ r. ⌜ r ≡ goesBefore deadline source first ⌝ }
 {
     if !first.found {
-        return false;
+        return true;
     }
-    if first.deadline != deadline {
-        return first.deadline < deadline;
+    if deadline != first.deadline {
+        return deadline < first.deadline;
     }
-    first.source < source
+    source < first.source
 }
 
-// The message at that place of the list against the one that goes first among the later ones.
-fn consider(first: First, place: usize, frame: &[u8], marks: &[u32; 64], time: u32) -> First
-    requires { ⌜ Reads (now frame) ⌝ }
-    ensures { λ r. ⌜ r ≡ considered (isReady (asking (now (marks .entry)) time) (messageIn 4 (now (frame .entry))))
-        place (messageIn 4 (now (frame .entry))) first ⌝ }
+// The message at that place of the list, which lies in that slot, against the one that goes first
+// among the earlier ones.
+fn consider<'a, 'b>(
+    first: First,
+    place: usize,
+    slot: usize,
+    slots: &'a [u8],
+    marks: &'b [u32; 64],
+    time: u32,
+) -> First
+    requires { ⌜ Slots (now slots) × (slot < 32) × Reads (frameIn (now slots) slot) ⌝ }
+    ensures { λ r. ⌜ r ≡ considered (isReady (asking (now (marks .entry)) time) (messageIn 4 (frameIn (now (slots .entry)) slot)))
+        place (messageIn 4 (frameIn (now (slots .entry)) slot)) first ⌝ }
 {
-    let deadline = deadline(frame);
-    let source = source(frame);
-    if is_sooner(first, deadline, source) {
+    let deadline = deadline_at(slots, slot);
+    let source = source_at(slots, slot);
+    if !goes_before(deadline, source, first) {
         return first;
     }
-    if !ready(frame, marks, time) {
+    if !ready(frame_at(slots, slot), marks, time) {
         return first;
     }
     First {
@@ -116,7 +127,7 @@ fn choice<'a, 'b, 'c>(
     slots: &'c [u8],
 ) -> First
     requires { ⌜ Slots (now slots) × Listed (now slots) waiting (now places) × (length (now places) ≡ 32) ⌝ }
-    ensures { λ r. ⌜ r ≡ firstIn 0 (held (now (slots .entry)) (take waiting (now (places .entry))))
+    ensures { λ r. ⌜ r ≡ firstIn (held (now (slots .entry)) (take waiting (now (places .entry))))
         (choiceIn (asking (now (marks .entry)) time) (held (now (slots .entry)) (take waiting (now (places .entry))))) ⌝ }
 {
     let mut first = First {
@@ -125,11 +136,11 @@ fn choice<'a, 'b, 'c>(
         deadline: 0,
         source: 0,
     };
-    let mut place = waiting;
-    while 0 < place {
-        place -= 1;
+    let mut place = 0;
+    while place < waiting {
         let slot = places[place] as usize;
-        first = consider(first, place, frame_at(slots, slot), marks, time);
+        first = consider(first, place, slot, slots, marks, time);
+        place += 1;
     }
     first
 }

@@ -56,6 +56,22 @@ pub fn deadline(frame: &[u8]) -> u32
     number_at(frame, 6, 4) as u32
 }
 
+// The source and the deadline of the readable frame in a slot, read where they stand.
+pub fn source_at(slots: &[u8], slot: usize) -> u8
+    requires { ⌜ Slots (now slots) × (slot < 32) × Reads (frameIn (now slots) slot) ⌝ }
+    ensures { λ r. ⌜ r ≡ messageIn 4 (frameIn (now (slots .entry)) slot) .source ⌝ }
+{
+    let at = slot * 309 + 7;
+    slots[at]
+}
+
+pub fn deadline_at(slots: &[u8], slot: usize) -> u32
+    requires { ⌜ Slots (now slots) × (slot < 32) × Reads (frameIn (now slots) slot) ⌝ }
+    ensures { λ r. ⌜ r ≡ messageIn 4 (frameIn (now (slots .entry)) slot) .deadline ⌝ }
+{
+    number_at(slots, slot * 309 + 8, 4) as u32
+}
+
 // Whether each of the first slots holds a readable frame.
 pub fn all_read(slots: &[u8], count: usize) -> bool
     requires { ⌜ Slots (now slots) × (count ≤ 32) ⌝ }

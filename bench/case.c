@@ -3,6 +3,7 @@
 
 #include "convert.h"
 
+#include <stdbool.h>
 #include <string.h>
 
 Case now;
@@ -53,7 +54,7 @@ void empty(void)
     now.out_n = OUTPUT_MIN;
 }
 
-void chain(size_t n)
+static void linked(size_t n, bool rising)
 {
     empty();
     now.panel.count = n;
@@ -63,8 +64,18 @@ void chain(size_t n)
             entry(&m, 62, 500);
         else
             entry(&m, (uint8_t)(k - 1), (uint32_t)(1000 + k - 1));
-        slot_write(&now.panel, n - 1 - k, &m);
+        slot_write(&now.panel, rising ? k : n - 1 - k, &m);
     }
+}
+
+void chain(size_t n)
+{
+    linked(n, false);
+}
+
+void rising_chain(size_t n)
+{
+    linked(n, true);
 }
 
 void long_frames(size_t n)

@@ -49,6 +49,9 @@ void empty(void);
  */
 void chain(size_t n);
 
+/* The same, waiting in rising order of deadlines. */
+void rising_chain(size_t n);
+
 /* The longest frames, none ready until time 501 or until 62 has 500. */
 void long_frames(size_t n);
 

@@ -170,6 +170,9 @@ static void clock_rows(void)
     chain(32);
     to_clock(501);
     row("clock, settle of 32", 0, 32);
+    rising_chain(32);
+    to_clock(501);
+    row("clock, settle of 32, rising order", 0, 32);
     long_frames(32);
     to_clock(501);
     row("clock, settle of 32 of 307 bytes, first to last", 0, 32);
@@ -190,6 +193,9 @@ static void receive_rows(void)
     m = plain(62, 500, 32);
     to_receive(&m);
     row("receive, ready, settle of 32", 0, 33);
+    rising_chain(32);
+    to_receive(&m);
+    row("receive, ready, settle of 32, rising order", 0, 33);
     chain(0);
     m = usual(50, 2000);
     to_receive(&m);

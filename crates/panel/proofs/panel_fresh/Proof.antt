@@ -1,5 +1,7 @@
 -- `panel::panel_fresh` meets its contract: its test is that of 11. Assumes nothing.
 use mathlib.Core.Path.{sym, _∙_}
+use Prim.Native.Nat.{_≤_, _<_}
+use native.Mathlib.Omega.{arith}
 use borrow.Author.Needs.{needs}
 use Rattle.panel.proofs.Refusing.{freshNumber-above, freshNumber-within, freshRecord-above, freshRecord-within}
 use Rattle.panel.proofs.panel_fresh.Statement.{statement}
@@ -11,7 +13,7 @@ fresh-panel-requires c κs = search needs
 returns : tie.Need-returns
 returns c =
     let own = c .before .before .args .own in
-    let above = c .before .if1 .taken in
+    let above : 63 < c .before .before .args .own = omega arith in
     (sym (freshNumber-above own above), c .fresh-panel .ensures ∙ sym (freshRecord-above own above))
 
 fresh-panel-requires-2 : tie.Need-fresh-panel-requires-2
@@ -20,7 +22,7 @@ fresh-panel-requires-2 c κs = search needs
 returns-2 : tie.Need-returns-2
 returns-2 c =
     let own = c .before .before .args .own in
-    let within = c .before .if1 .left in
+    let within : c .before .before .args .own ≤ 63 = omega arith in
     (sym (freshNumber-within own within), c .fresh-panel2 .ensures ∙ sym (freshRecord-within own within))
 
 pub panel-fresh-spec : {M : Type 1} → statement M

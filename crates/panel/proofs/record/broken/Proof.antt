@@ -18,7 +18,7 @@ given s =
     recordWith (a .own) 0 (a .high) (now (a .marks)) (now (a .barrier)) (now (a .slots)) (a .count)
 
 returns : tie.Need-returns
-returns c = sym (broken-own (given (c .before .before)) (c .if1 .taken))
+returns c = sym (broken-own (given (c .before .before)) (omega (arith, c .if1 .taken)))
 
 each-at-most-requires : tie.Need-each-at-most-requires
 each-at-most-requires c κs = c .before .before .pre .0

@@ -1,6 +1,9 @@
 // Prints frames that can be compared with document 01 by eye: those of bench cases 1 and 2, the
 // reading of one more, the number that each damage to it is answered with, and what is not written.
 // The file stdout beside src/ is what it must print.
+use printing::print;
+use printing::print_bytes;
+use printing::print_item;
 
 // The first n bytes, or none where there are fewer.
 fn first(bytes: &[u8], n: usize) -> &[u8] {
@@ -11,28 +14,8 @@ fn first(bytes: &[u8], n: usize) -> &[u8] {
     }
 }
 
-fn print(text: &[u8]) {
-    io::write_all(1, text);
-}
-
-fn print_item(label: &[u8], number: u64) {
-    io::write_all(1, label);
-    io::print_decimal(1, number);
-}
-
-fn wide(byte: u8) -> u64 {
-    byte as u64
-}
-
 fn entry(entries: [u32; 64], panel: usize) -> u32 {
     if panel < 64 { entries[panel] } else { 0 }
-}
-
-// Two hexadecimal digits for each byte.
-fn print_bytes(bytes: &[u8]) {
-    for i in 0..bytes.len() {
-        io::print_hex(1, wide(bytes[i]), 2);
-    }
 }
 
 // A line that ends with the bytes.

@@ -2,26 +2,9 @@
 // line for the call, then for each log record a line `hand` with source, deadline and payload. The
 // file stdout beside src/ is what it must print.
 use panel::Panel;
-
-fn print(text: &[u8]) {
-    io::write_all(1, text);
-}
-
-fn print_item(label: &[u8], number: u64) {
-    io::write_all(1, label);
-    io::print_decimal(1, number);
-}
-
-fn wide(byte: u8) -> u64 {
-    byte as u64
-}
-
-// Two hexadecimal digits for each byte.
-fn print_bytes(bytes: &[u8]) {
-    for i in 0..bytes.len() {
-        io::print_hex(1, wide(bytes[i]), 2);
-    }
-}
+use printing::print;
+use printing::print_bytes;
+use printing::print_item;
 
 // The bytes from a place up to another, or none where there are fewer.
 fn part(bytes: &[u8], start: usize, end: usize) -> &[u8] {

@@ -1,10 +1,10 @@
--- `frame_cases::print_bytes` is safe and ends: i is at most the length, and what is left of it falls. Assumes nothing.
+-- `printing::print_bytes` is safe and ends: i is at most the length, and what is left of it falls. Assumes nothing.
 use Prim.Native.Nat.{_-_, _≤_}
 use mathlib.Core.Path.{_≡_}
 use borrow.Author.Needs.{needs}
 use lib.ListN.{length}
-use Rattle.frame_cases.proofs.print_bytes.Statement.{statement}
-use Rattle.frame_cases.proofs.print_bytes.Tie as tie
+use Rattle.printing.proofs.print_bytes.Statement.{statement}
+use Rattle.printing.proofs.print_bytes.Tie as tie
 
 abbrev Inv-loop : tie.InvT-loop
 Inv-loop bytes i₀ i-end i = (i-end ≡ length bytes) × (i ≤ length bytes)

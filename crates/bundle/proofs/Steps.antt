@@ -1,0 +1,70 @@
+-- The steps of a bundle, one law for each case; what a frame found lies in; and a run of frames read back.
+use mathlib.Core.Path.{_≡_, refl, sym, ap, _∙_}
+use mathlib.Core.Bool.{Bool, true, false, cond}
+use mathlib.Core.List.{List, [], _∷_, _++_}
+use Prim.Native.Nat.{ℕ, _+_, _≤_, _<_}
+use native.Mathlib.Omega.{arith}
+use lib.Dec.{ltb, eqb}
+use lib.ListN.{length}
+use borrow.Author.Tests.{ltb-false, lt-ltb, le-ltb, eq-eqb, ne-eqb}
+use Rattle.numbers.specs.Numbers.{numberAt}
+use Rattle.bundle.specs.declared.Step.{Step}
+use Rattle.bundle.specs.declared.Step.the-variants.{Frame, End, Broken}
+use Rattle.bundle.specs.Bundle.{stepAt, placeAfter}
+
+not-broken : (b : Bool) (x : Step) (s l n : ℕ) → cond b Broken x ≡ Frame s l n → (b ≡ false) × (x ≡ Frame s l n)
+not-broken true x s l n e = let z : _≡_ {A = ℕ} 0 1 = cc in absurd (omega arith)
+not-broken false x s l n e = (refl, e)
+
+not-end : (b : Bool) (x : Step) (s l n : ℕ) → cond b End x ≡ Frame s l n → (b ≡ false) × (x ≡ Frame s l n)
+not-end true x s l n e = let z : _≡_ {A = ℕ} 0 1 = cc in absurd (omega arith)
+not-end false x s l n e = (refl, e)
+
+-- a frame found lies within the bundle
+pub frame-within : (bundle : List ℕ) (place s l n : ℕ) → stepAt bundle place ≡ Frame s l n → s + l ≤ length bundle
+unfolding stepAt
+frame-within bundle place s l n e =
+    let t1 = not-broken (ltb (length bundle) place) _ s l n e in
+    let t2 = not-end (eqb (length bundle) place) _ s l n (t1 .1) in
+    let t3 = not-broken (ltb (length bundle) (place + 2)) _ s l n (t2 .1) in
+    let t4 = not-broken (ltb (length bundle) (place + 2 + numberAt bundle place 2)) _ s l n (t3 .1) in
+    let f : Frame (place + 2) (numberAt bundle place 2) (place + 2 + numberAt bundle place 2) ≡ Frame s l n = t4 .1 in
+    let es : place + 2 ≡ s = cc in
+    let el : numberAt bundle place 2 ≡ l = cc in
+    let fits : place + 2 + numberAt bundle place 2 ≤ length bundle = ltb-false (length bundle) (place + 2 + numberAt bundle place 2) (t4 .0) in
+    omega arith
+
+module _ (bundle : List ℕ) (place : ℕ) where
+  pub step-past : length bundle < place → stepAt bundle place ≡ Broken
+  unfolding stepAt
+  step-past past = simp (lt-ltb _ _ past)
+
+  pub step-end : length bundle ≡ place → stepAt bundle place ≡ End
+  unfolding stepAt
+  step-end all =
+      let within : place ≤ length bundle = omega arith in
+      simp (le-ltb _ _ within, eq-eqb _ _ all)
+
+  -- too few bytes for a length
+  pub step-short-length : place < length bundle → length bundle < place + 2 → stepAt bundle place ≡ Broken
+  unfolding stepAt
+  step-short-length some short =
+      let within : place ≤ length bundle = omega arith in
+      let left : length bundle ≡ place → ⊥ = λ e. omega arith in
+      simp (le-ltb _ _ within, ne-eqb _ _ left, lt-ltb _ _ short)
+
+  -- too few bytes for the frame
+  pub step-short-frame : place + 2 ≤ length bundle → length bundle < place + 2 + numberAt bundle place 2 → stepAt bundle place ≡ Broken
+  unfolding stepAt
+  step-short-frame two short =
+      let within : place ≤ length bundle = omega arith in
+      let left : length bundle ≡ place → ⊥ = λ e. omega arith in
+      simp (le-ltb _ _ within, ne-eqb _ _ left, le-ltb _ _ two, lt-ltb _ _ short)
+
+  pub step-frame : place + 2 ≤ length bundle → place + 2 + numberAt bundle place 2 ≤ length bundle
+      → stepAt bundle place ≡ Frame (place + 2) (numberAt bundle place 2) (place + 2 + numberAt bundle place 2)
+  unfolding stepAt
+  step-frame two fits =
+      let within : place ≤ length bundle = omega arith in
+      let left : length bundle ≡ place → ⊥ = λ e. omega arith in
+      simp (le-ltb _ _ within, ne-eqb _ _ left, le-ltb _ _ two, le-ltb _ _ fits)

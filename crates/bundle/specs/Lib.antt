@@ -1,0 +1,2 @@
+-- The definitions that the bundle reader's promises cite.
+pub mod Bundle

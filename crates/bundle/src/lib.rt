@@ -1,0 +1,108 @@
+// Bundles: a run of frames, each behind its length in 16 bits. The bundle reader keeps the slice and
+// its place, and gives the next frame as a part of the slice, or end, or broken. No public function
+// asks anything of its caller.
+use frame::Fields;
+use numbers::number_at;
+ghost use mathlib.Core.Path.{_≡_};
+ghost use Rattle.frame.specs.Reading.{reading};
+ghost use Rattle.frame.specs.Answer.{fieldsOf};
+ghost use Rattle.bundle.specs.Bundle.{stepAt, frameAt, FramePart};
+
+// What stands at a place: a frame, from start on, of so many bytes, and the place behind it; the end;
+// or broken. With end and broken the place stays.
+pub enum Step {
+    Frame {
+        start: usize,
+        length: usize,
+        next: usize,
+    },
+    End,
+    Broken,
+}
+
+// The step at a place of a bundle.
+pub fn step_at(bundle: &[u8], place: usize) -> Step
+    ensures { λ r. ⌜ r ≡ stepAt (now (bundle .entry)) place ⌝ }
+{
+    let size = bundle.len();
+    if size < place {
+        return Step::Broken;
+    }
+    if size == place {
+        return Step::End;
+    }
+    if size - place < 2 {
+        return Step::Broken;
+    }
+    let length = number_at(bundle, place, 2) as usize;
+    let start = place + 2;
+    if size - start < length {
+        return Step::Broken;
+    }
+    Step::Frame {
+        start,
+        length,
+        next: start + length,
+    }
+}
+
+// The frame at a place, as the part of the bundle that it occupies; with end and broken the empty
+// part at the bundle's start.
+pub fn part_at(bundle: &[u8], place: usize) -> &[u8]
+    ensures { λ r. ⌜ FramePart (bundle .entry) place r ⌝ }
+{
+    match step_at(bundle, place) {
+        Step::Frame {
+            start,
+            length,
+            next: _,
+        } => &bundle[start..start + length],
+        Step::End => &bundle[0..0],
+        Step::Broken => &bundle[0..0],
+    }
+}
+
+// The reading of the frame at a place: the part in the middle of the bundle is passed to the frame
+// reading.
+pub fn read_at(bundle: &[u8], place: usize) -> Fields
+    ensures { λ r. ⌜ r ≡ fieldsOf (reading 4 (frameAt (now (bundle .entry)) place)) ⌝ }
+{
+    frame::read(part_at(bundle, place))
+}
+
+// The reader: a bundle and a place in it. The functions over it take it apart, and are proved by hand.
+pub struct Reader<'a> {
+    pub bundle: &'a [u8],
+    pub place: usize,
+}
+
+// A reader at the start of a bundle.
+pub fn new<'a>(bundle: &'a [u8]) -> Reader<'a>
+    ensures { λ r. ⌜ (r .bundle ≡ bundle .entry) × (r .place ≡ 0) ⌝ }
+{
+    Reader { bundle, place: 0 }
+}
+
+// What comes next: the step at the reader's place.
+pub fn next<'a>(reader: Reader<'a>) -> Step
+    ensures { λ r. ⌜ r ≡ stepAt (now (reader .entry .bundle)) (reader .entry .place) ⌝ }
+{
+    step_at(reader.bundle, reader.place)
+}
+
+// The frame at the reader's place, as the part of the bundle that it occupies.
+pub fn part<'a>(reader: Reader<'a>) -> &'a [u8]
+    ensures { λ r. ⌜ FramePart (reader .entry .bundle) (reader .entry .place) r ⌝ }
+{
+    part_at(reader.bundle, reader.place)
+}
+
+// The same bundle at another place.
+pub fn moved<'a>(reader: Reader<'a>, place: usize) -> Reader<'a>
+    ensures { λ r. ⌜ (r .bundle ≡ reader .entry .bundle) × (r .place ≡ place) ⌝ }
+{
+    Reader {
+        bundle: reader.bundle,
+        place,
+    }
+}

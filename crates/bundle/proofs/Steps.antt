@@ -20,10 +20,15 @@ not-end : (b : Bool) (x : Step) (s l n : ℕ) → cond b End x ≡ Frame s l n �
 not-end true x s l n e = let z : _≡_ {A = ℕ} 0 1 = cc in absurd (omega arith)
 not-end false x s l n e = (refl, e)
 
--- a frame found lies within the bundle
-pub frame-within : (bundle : List ℕ) (place s l n : ℕ) → stepAt bundle place ≡ Frame s l n → s + l ≤ length bundle
+-- where a frame found lies
+pub record Found (bundle : List ℕ) (place start size next : ℕ) : Type 0 where
+  pub begins : start ≡ place + 2
+  pub ends : next ≡ start + size
+  pub within : next ≤ length bundle
+
+pub step-found : (bundle : List ℕ) (place start size next : ℕ) → stepAt bundle place ≡ Frame start size next → Found bundle place start size next
 unfolding stepAt
-frame-within bundle place s l n e =
+step-found bundle place s l n e =
     let t1 = not-broken (ltb (length bundle) place) _ s l n e in
     let t2 = not-end (eqb (length bundle) place) _ s l n (t1 .1) in
     let t3 = not-broken (ltb (length bundle) (place + 2)) _ s l n (t2 .1) in
@@ -31,8 +36,9 @@ frame-within bundle place s l n e =
     let f : Frame (place + 2) (numberAt bundle place 2) (place + 2 + numberAt bundle place 2) ≡ Frame s l n = t4 .1 in
     let es : place + 2 ≡ s = cc in
     let el : numberAt bundle place 2 ≡ l = cc in
+    let en : place + 2 + numberAt bundle place 2 ≡ n = cc in
     let fits : place + 2 + numberAt bundle place 2 ≤ length bundle = ltb-false (length bundle) (place + 2 + numberAt bundle place 2) (t4 .0) in
-    omega arith
+    record { begins = omega arith; ends = omega arith; within = omega arith }
 
 module _ (bundle : List ℕ) (place : ℕ) where
   pub step-past : length bundle < place → stepAt bundle place ≡ Broken

@@ -28,17 +28,17 @@ module _ (before frame after : List ℕ) (short : length frame < 256 ^ 2) where
   room = simp (length-append, length-bigEndian) (omega arith)
 
   -- the step at its place finds it
-  pub step-found : stepAt (before ++ behind) (length before) ≡ Frame (length before + 2) (length frame) (length before + 2 + length frame)
-  step-found =
+  pub frame-step : stepAt (before ++ behind) (length before) ≡ Frame (length before + 2) (length frame) (length before + 2 + length frame)
+  frame-step =
       let n = size in
       let r = room in
       step-frame (before ++ behind) (length before) (omega arith) (omega arith)
       ∙ ap (λ (size : ℕ). Frame (length before + 2) size (length before + 2 + size)) n
 
   -- and the part is the frame
-  pub frame-found : frameAt (before ++ behind) (length before) ≡ frame
-  frame-found =
-      ap (λ (step : Step). partOf (before ++ behind) step) step-found
+  pub frame-part : frameAt (before ++ behind) (length before) ≡ frame
+  frame-part =
+      ap (λ (step : Step). partOf (before ++ behind) step) frame-step
       ∙ ap (λ (bs : List ℕ). take (length frame) bs)
       (sym (drop-drop 2 (length before) (before ++ behind))
       ∙ ap (λ (bs : List ℕ). drop 2 bs) (drop-append-seam before behind ∙ append-assoc (bigEndian 2 (length frame)) frame after)

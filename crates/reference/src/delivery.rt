@@ -4,7 +4,6 @@ use crate::Host;
 use crate::Message;
 use crate::pending;
 use crate::reading::read_payload;
-use crate::words::bit;
 use crate::words::with_bit;
 use crate::words::without_bit;
 use crate::writing::write_record;
@@ -48,8 +47,7 @@ fn raised(mut values: [u32; 64], s: usize, value: u32) -> [u32; 64] {
     values
 }
 
-// Code 3: a message is co-delivered: the registries take it up, its log record is written, and the
-// pending messages wait for it no more.
+// Code 3: the registries and the log take the message, and no pending message waits for it.
 pub fn perform_delivery(mut host: Host, message: Message, output: &mut [u8], count: usize) -> Host
     requires { ⌜ count ≤ 32 ⌝ }
 {
@@ -74,8 +72,10 @@ fn forget_dependency(mut host: Host, source: usize, deadline: u32) -> Host {
         return host;
     }
     for i in 0..32usize {
-        if host.entries[i * 64 + source] <= deadline {
-            host.unmet[i] = without_bit(host.unmet[i], source);
+        if i < host.count {
+            if host.entries[i * 64 + source] <= deadline {
+                host.unmet[i] = without_bit(host.unmet[i], source);
+            }
         }
     }
     host
@@ -106,10 +106,11 @@ pub fn expunge_expired_predecessors(unmet: u64, entries: [u32; 64], time: u32) -
 // Code 12: entries below the time are struck off the pending messages; no mark is forgotten.
 fn forget_expired_messages(mut host: Host) -> Host {
     for i in 0..32usize {
-        let message = pending::get(host, i);
-        let entries = message.entries;
-        let unmet = host.unmet[i];
-        host.unmet[i] = expunge_expired_predecessors(unmet, entries, host.time);
+        if i < host.count {
+            let message = pending::get(host, i);
+            let entries = message.entries;
+            host.unmet[i] = expunge_expired_predecessors(host.unmet[i], entries, host.time);
+        }
     }
     host
 }
@@ -122,7 +123,7 @@ fn before(deadline: u32, source: u8, other_deadline: u32, other_source: u8) -> b
     deadline < other_deadline
 }
 
-// The place of the pending message to co-deliver next, or 32 if none has all its entries struck off.
+// The place of the pending message to co-deliver next, of those with all entries struck off, or 32.
 fn choose(host: Host) -> usize {
     let mut best = 32usize;
     let mut deadline = 0u32;

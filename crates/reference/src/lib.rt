@@ -80,7 +80,7 @@ fn initial(own: u8) -> Host {
     }
 }
 
-// The answer that changes nothing.
+// The answer with no log record and no frame.
 fn refused(host: Host, number: u8) -> Answer {
     Answer {
         host,

@@ -16,7 +16,7 @@ fn entries_of(values: [u32; 2048], i: usize) -> [u32; 64]
     entries
 }
 
-// Pending message i with its fields as they are, and zeros behind the payload.
+// Pending message i with its fields as they are, and zeros behind the payload; all 0 above 31.
 pub fn get(host: Host, i: usize) -> Message {
     if 31 < i {
         return refusal(0);

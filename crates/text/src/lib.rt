@@ -13,7 +13,7 @@ ghost use Rattle.text.specs.Lines.{item, outcome, frameLine, payloadIn, 
 ghost use Rattle.text.specs.Put.{Room, Put};
 
 // Puts words.
-fn put_words<'a, 'b>(text: &'a mut [u8], at: usize, words: &'b [u8]) -> usize
+pub fn put_words<'a, 'b>(text: &'a mut [u8], at: usize, words: &'b [u8]) -> usize
     requires { ⌜ Room (now text) at (length (now words)) ⌝ }
     ensures { λ r. ⌜ Put (now (text .entry)) at (now (words .entry)) (now (text .exit)) r ⌝ }
 {

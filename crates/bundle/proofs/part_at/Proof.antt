@@ -9,7 +9,7 @@ use denote.Ref.{now}
 use lib.ListN.{length, take, drop}
 use Rattle.bundle.specs.declared.Step.the-variants.{Frame, End, Broken}
 use Rattle.bundle.specs.Bundle.{stepAt}
-use Rattle.bundle.proofs.Steps.{frame-within}
+use Rattle.bundle.proofs.Steps.{step-found}
 use borrow.Author.Needs.{needs}
 use Rattle.bundle.proofs.part_at.Statement.{statement}
 use Rattle.bundle.proofs.part_at.Tie as tie
@@ -21,7 +21,7 @@ told : (c : tie.After-start)
 told c = sym (c .before .before .step-at .ensures) ∙ c .start .given .1
 
 within : (c : tie.After-start) → c .start .given .0 .0 + c .start .given .0 .1 .0 ≤ length (now (c .before .before .before .before .args .bundle))
-within c = frame-within _ _ _ _ _ (told c)
+within c = let found = step-found _ _ _ _ _ (told c) in omega (arith, found .ends, found .within)
 
 step-at-requires : tie.Need-step-at-requires
 step-at-requires c κs = search needs

@@ -16,17 +16,17 @@ returns c = search needs
 loop-holds : tie.Need-loop-holds Inv-loop μ-loop
 loop-holds c = search needs
 
-mul-if2 : tie.Need-mul-if2 Inv-loop μ-loop
-mul-if2 c = search needs
+mul-if3 : tie.Need-mul-if3 Inv-loop μ-loop
+mul-if3 c = search needs
 
-add-if2 : tie.Need-add-if2 Inv-loop μ-loop
-add-if2 c = search needs
+add-if3 : tie.Need-add-if3 Inv-loop μ-loop
+add-if3 c = search needs
 
-mul-if2-2 : tie.Need-mul-if2-2 Inv-loop μ-loop
-mul-if2-2 c = search needs
+mul-if3-2 : tie.Need-mul-if3-2 Inv-loop μ-loop
+mul-if3-2 c = search needs
 
-element-copy-out-if2 : tie.Need-element-copy-out-if2 Inv-loop μ-loop
-element-copy-out-if2 c = search needs
+element-copy-out-if3 : tie.Need-element-copy-out-if3 Inv-loop μ-loop
+element-copy-out-if3 c = search needs
 
 mul-without-bit : tie.Need-mul-without-bit Inv-loop μ-loop
 mul-without-bit c = search needs
@@ -63,10 +63,10 @@ forget-dependency-spec =
     μ-loop
     returns
     loop-holds
-    mul-if2
-    add-if2
-    mul-if2-2
-    element-copy-out-if2
+    mul-if3
+    add-if3
+    mul-if3-2
+    element-copy-out-if3
     mul-without-bit
     element-copy-out-without-bit
     without-bit-requires

@@ -16,11 +16,12 @@ loop-holds c = search needs
 get-requires : tie.Need-get-requires Inv-loop μ-loop
 get-requires c κs = search needs
 
-mul-unmet : tie.Need-mul-unmet Inv-loop μ-loop
-mul-unmet c = search needs
+mul-expunge-expired-predecessors : tie.Need-mul-expunge-expired-predecessors Inv-loop μ-loop
+mul-expunge-expired-predecessors c = search needs
 
-element-copy-out-unmet : tie.Need-element-copy-out-unmet Inv-loop μ-loop
-element-copy-out-unmet c = search needs
+element-copy-out-expunge-expired-predecessors :
+    tie.Need-element-copy-out-expunge-expired-predecessors Inv-loop μ-loop
+element-copy-out-expunge-expired-predecessors c = search needs
 
 expunge-expired-predecessors-requires :
     tie.Need-expunge-expired-predecessors-requires Inv-loop μ-loop
@@ -52,8 +53,8 @@ forget-expired-messages-spec =
     μ-loop
     loop-holds
     get-requires
-    mul-unmet
-    element-copy-out-unmet
+    mul-expunge-expired-predecessors
+    element-copy-out-expunge-expired-predecessors
     expunge-expired-predecessors-requires
     mul-host
     element-write-host

@@ -1,0 +1,2 @@
+-- The steps of a listing.
+pub mod Stepping

@@ -1,0 +1,37 @@
+-- What one step of the listing promises.
+use Prim.Native.Nat.{ℕ, _+_, _≤_, _<_}
+use mathlib.Core.Path.{_≡_}
+use mathlib.Core.Bool.{true, false}
+use mathlib.Core.List.{List}
+use lib.ListN.{length}
+use Rattle.bundle.specs.Bundle.{stepAt}
+use Rattle.panel.specs.Record.{recordOf}
+use Rattle.text.specs.Put.{Put, Room}
+use Rattle.listing.specs.declared.Listing.{Listing}
+use Rattle.listing.specs.Listing.{State, linesAt, stateAfter, goesOn}
+
+-- where the listing stands
+abbrev pub stateOf : Listing → State
+stateOf l = record { panel = recordOf (l .panel); place = l .place; frames = l .frames }
+
+-- what a step asks for: room for the longest lines, and a place in the bundle, behind at least as many bytes as frames
+pub record Standing (bundle : List ℕ) (l : Listing) (text : List ℕ) : Type 0 where
+  pub room : Room text (l .at) 4096
+  pub few : l .frames ≤ l .place
+  pub within : l .place ≤ length bundle
+
+-- what it gives: the lines are put, the listing stands where they end, and goes on with a place further on
+pub record Stepped (bundle : List ℕ) (given : Listing) (text : List ℕ) (l : Listing) (after : List ℕ) : Type 0 where
+  pub lines : Put text (given .at) (linesAt bundle (stateOf given)) after (l .at)
+  pub state : stateOf l ≡ stateAfter bundle (stateOf given)
+  pub more : l .more ≡ goesOn (stepAt bundle (given .place))
+  pub short : l .at ≤ given .at + 4096
+  pub few : l .frames ≤ l .place
+  pub within : l .place ≤ length bundle
+  pub further : l .more ≡ true → given .place < l .place
+
+-- what putting the last line gives: the listing stands where it stood, and does not go on
+pub record Ended (given : Listing) (text line : List ℕ) (l : Listing) (after : List ℕ) : Type 0 where
+  pub lines : Put text (given .at) line after (l .at)
+  pub state : stateOf l ≡ stateOf given
+  pub more : l .more ≡ false

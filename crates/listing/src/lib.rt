@@ -1,0 +1,90 @@
+// The listing of a bundle, step by step: each step receives one frame at a panel and puts its lines
+// into a buffer, which the program "list" prints. An internal crate: a step asks its caller for room.
+use bundle::Step;
+use bundle::part_at;
+use bundle::step_at;
+use panel::Panel;
+use panel::panel_fresh;
+use panel::panel_receive;
+use text::put_frame_line;
+use text::put_hand_lines;
+use text::put_words;
+ghost use mathlib.Core.Path.{_≡_};
+ghost use mathlib.Core.Bool.{true};
+ghost use lib.ListN.{length};
+ghost use Rattle.text.specs.Put.{Room};
+ghost use Rattle.listing.specs.Listing.{start as startState};
+ghost use Rattle.listing.specs.Step.{stateOf, Standing, Stepped, Ended};
+
+// Where the listing stands: the panel, the place in the bundle, the frames so far, the place behind
+// the text put so far, and whether it goes on.
+pub struct Listing {
+    pub panel: Panel,
+    pub place: usize,
+    pub frames: usize,
+    pub at: usize,
+    pub more: bool,
+}
+
+// A fresh panel 0 at time 0, at the start of a bundle and of a buffer.
+pub fn start() -> Listing
+    ensures { λ r. ⌜ (stateOf r ≡ startState) × (r .at ≡ 0) × (r .more ≡ true) ⌝ }
+{
+    let fresh = panel_fresh(0);
+    let panel = fresh.panel;
+    Listing {
+        panel,
+        place: 0,
+        frames: 0,
+        at: 0,
+        more: true,
+    }
+}
+
+// Puts the last line.
+fn last<'a, 'b>(listing: Listing, text: &'a mut [u8], line: &'b [u8]) -> Listing
+    requires { ⌜ Room (now text) (listing .at) (length (now line)) ⌝ }
+    ensures { λ r. ⌜ Ended listing (now (text .entry)) (now (line .entry)) r (now (text .exit)) ⌝ }
+{
+    let at = put_words(text, listing.at, line);
+    let panel = listing.panel;
+    Listing {
+        panel,
+        place: listing.place,
+        frames: listing.frames,
+        at,
+        more: false,
+    }
+}
+
+// One step: the lines of the next frame, or the last line.
+pub fn list_next<'a, 'b>(bundle: &'a [u8], listing: Listing, text: &'b mut [u8]) -> Listing
+    requires { ⌜ Standing (now bundle) listing (now text) ⌝ }
+    ensures { λ r. ⌜ Stepped (now (bundle .entry)) listing (now (text .entry)) r (now (text .exit)) ⌝ }
+{
+    let place = listing.place;
+    match step_at(bundle, place) {
+        Step::Frame {
+            start: _,
+            length: _,
+            next,
+        } => {
+            let mut output = [0u8; 1254];
+            let panel = listing.panel;
+            let received = panel_receive(panel, part_at(bundle, place), &mut output);
+            let frames = listing.frames + 1;
+            let line = put_frame_line(text, listing.at, frames as u64, received.number);
+            let at = put_hand_lines(text, line, &output, received.count);
+            let panel = received.panel;
+            Listing {
+                panel,
+                place: next,
+                frames,
+                at,
+                more: true,
+            }
+        }
+        Step::End => last(listing, text, b"end\n"),
+        Step::Broken => last(listing, text, b"broken\n"),
+    }
+}

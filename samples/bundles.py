@@ -1,0 +1,79 @@
+#!/usr/bin/env python3
+"""Writes the bundles that the runs of "list" in the gate are given; harvest.bundle is the first of them.
+
+usage: samples/bundles.py    (from anywhere; it writes into the repository that it stands in)
+
+What each run must print stands beside it, in crates/NAME/stdout, written from document 01 by hand.
+"""
+import os
+import struct
+
+CRATES = os.path.join(os.path.dirname(os.path.abspath(__file__)), "..", "crates")
+
+
+def frame(source, deadline, entries=None, payload=b"", mark=b"DRY", version=1, length=None):
+    """A frame; entries is a dictionary from panels to deadlines. Nothing is checked."""
+    entries = entries or {}
+    mask = sum(1 << panel for panel in entries)
+    head = mark + struct.pack(">HBIQ", version, source, deadline, mask)
+    dues = b"".join(struct.pack(">I", entries[panel]) for panel in sorted(entries))
+    return head + dues + bytes([len(payload) if length is None else length]) + payload
+
+
+def bundle(*frames):
+    """A run of frames, each behind its length in 16 bits."""
+    return b"".join(struct.pack(">H", len(f)) + f for f in frames)
+
+
+# Panel 3 holds a batch; panel 5, which has read that, reports the moisture; panel 3, which has read
+# that, lifts the hold. They come in the wrong order, with a damaged copy and one more copy.
+HOLD = frame(3, 1300, payload=b"hold batch 6")
+MOISTURE = frame(5, 1301, {3: 1300}, b"moisture 19")
+LIFTED = frame(3, 1400, {3: 1300, 5: 1301}, b"hold lifted")
+HARVEST = bundle(LIFTED, MOISTURE, b"DRX" + HOLD[3:], HOLD, MOISTURE)
+
+# Bench cases 1 and 2 of document 01.
+FIRST = frame(3, 1300, payload=b"OK")
+SECOND = frame(3, 1301, {3: 1300})
+
+# 32 messages that wait for one of panel 1, which comes last.
+WAITING = [frame(2, 100 + i, {1: 50}) for i in range(32)]
+
+REFUSALS = bundle(
+    b"",  # 1: fewer than 19 bytes
+    frame(1, 10)[:18],  # 1: fewer than 19 bytes
+    frame(1, 10, {2: 5})[:22],  # 1: too few bytes for the entry and the length byte
+    frame(1, 10, payload=b"OK")[:20],  # 1: too few bytes for the payload
+    frame(1, 10, mark=b"DRX"),  # 2
+    frame(1, 10, version=2),  # 3
+    frame(64, 10),  # 4
+    frame(1, 0),  # 5
+    frame(1, 10, {2: 0}),  # 6: an entry of 0
+    frame(1, 10, {2: 5, 3: 10}),  # 6: an entry equal to the deadline
+    frame(1, 10, payload=bytes(33)),  # 7
+    frame(1, 10) + b"\0",  # 8
+    frame(0, 10),  # 20
+    frame(1, 10),  # taken
+    frame(1, 10),  # 22: its deadline is the mark of its source
+    frame(1, 9),  # 22: its deadline is below that mark
+    *WAITING,  # taken: they wait for 50 of panel 1
+    WAITING[31],  # 22: it is waiting already
+    frame(2, 200, {1: 50}),  # 23
+)
+
+BUNDLES = {
+    "list": HARVEST,
+    "list_case_3": bundle(SECOND, FIRST),
+    "list_empty": b"",
+    "list_one_byte": b"\0",
+    "list_broken": bundle(FIRST, SECOND) + struct.pack(">H", 500) + FIRST,
+    "list_full": bundle(*WAITING, frame(4, 60), frame(2, 200, {1: 50}), frame(1, 50)),
+    "list_refusals": REFUSALS,
+    "list_payloads": bundle(frame(1, 10), frame(2, 20, payload=bytes(range(240, 256)) + bytes(range(16)))),
+    "list_largest": bundle(bytes(65533)),
+    "list_long": bundle(bytes(65534)),
+}
+
+for name, data in BUNDLES.items():
+    with open(os.path.join(CRATES, name, "stdin"), "wb") as file:
+        file.write(data)

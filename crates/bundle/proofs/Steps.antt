@@ -1,4 +1,4 @@
--- The steps of a bundle, one law for each case; what a frame found lies in; and a run of frames read back.
+-- The steps of a bundle, one law for each case, and where a frame found lies.
 use mathlib.Core.Path.{_≡_, refl, sym, ap, _∙_}
 use mathlib.Core.Bool.{Bool, true, false, cond}
 use mathlib.Core.List.{List, [], _∷_, _++_}
@@ -11,34 +11,6 @@ use Rattle.numbers.specs.Numbers.{numberAt}
 use Rattle.bundle.specs.declared.Step.{Step}
 use Rattle.bundle.specs.declared.Step.the-variants.{Frame, End, Broken}
 use Rattle.bundle.specs.Bundle.{stepAt, placeAfter}
-
-not-broken : (b : Bool) (x : Step) (s l n : ℕ) → cond b Broken x ≡ Frame s l n → (b ≡ false) × (x ≡ Frame s l n)
-not-broken true x s l n e = let z : _≡_ {A = ℕ} 0 1 = cc in absurd (omega arith)
-not-broken false x s l n e = (refl, e)
-
-not-end : (b : Bool) (x : Step) (s l n : ℕ) → cond b End x ≡ Frame s l n → (b ≡ false) × (x ≡ Frame s l n)
-not-end true x s l n e = let z : _≡_ {A = ℕ} 0 1 = cc in absurd (omega arith)
-not-end false x s l n e = (refl, e)
-
--- where a frame found lies
-pub record Found (bundle : List ℕ) (place start size next : ℕ) : Type 0 where
-  pub begins : start ≡ place + 2
-  pub ends : next ≡ start + size
-  pub within : next ≤ length bundle
-
-pub step-found : (bundle : List ℕ) (place start size next : ℕ) → stepAt bundle place ≡ Frame start size next → Found bundle place start size next
-unfolding stepAt
-step-found bundle place s l n e =
-    let t1 = not-broken (ltb (length bundle) place) _ s l n e in
-    let t2 = not-end (eqb (length bundle) place) _ s l n (t1 .1) in
-    let t3 = not-broken (ltb (length bundle) (place + 2)) _ s l n (t2 .1) in
-    let t4 = not-broken (ltb (length bundle) (place + 2 + numberAt bundle place 2)) _ s l n (t3 .1) in
-    let f : Frame (place + 2) (numberAt bundle place 2) (place + 2 + numberAt bundle place 2) ≡ Frame s l n = t4 .1 in
-    let es : place + 2 ≡ s = cc in
-    let el : numberAt bundle place 2 ≡ l = cc in
-    let en : place + 2 + numberAt bundle place 2 ≡ n = cc in
-    let fits : place + 2 + numberAt bundle place 2 ≤ length bundle = ltb-false (length bundle) (place + 2 + numberAt bundle place 2) (t4 .0) in
-    record { begins = omega arith; ends = omega arith; within = omega arith }
 
 module _ (bundle : List ℕ) (place : ℕ) where
   pub step-past : length bundle < place → stepAt bundle place ≡ Broken
@@ -74,3 +46,33 @@ module _ (bundle : List ℕ) (place : ℕ) where
       let within : place ≤ length bundle = omega arith in
       let left : length bundle ≡ place → ⊥ = λ e. omega arith in
       simp (le-ltb _ _ within, ne-eqb _ _ left, le-ltb _ _ two, le-ltb _ _ fits)
+
+-- ---- a frame found
+
+not-broken : (b : Bool) (x : Step) (s l n : ℕ) → cond b Broken x ≡ Frame s l n → (b ≡ false) × (x ≡ Frame s l n)
+not-broken true x s l n e = let z : _≡_ {A = ℕ} 0 1 = cc in absurd (omega arith)
+not-broken false x s l n e = (refl, e)
+
+not-end : (b : Bool) (x : Step) (s l n : ℕ) → cond b End x ≡ Frame s l n → (b ≡ false) × (x ≡ Frame s l n)
+not-end true x s l n e = let z : _≡_ {A = ℕ} 0 1 = cc in absurd (omega arith)
+not-end false x s l n e = (refl, e)
+
+-- where a frame found lies
+pub record Found (bundle : List ℕ) (place start size next : ℕ) : Type 0 where
+  pub begins : start ≡ place + 2
+  pub ends : next ≡ start + size
+  pub within : next ≤ length bundle
+
+pub step-found : (bundle : List ℕ) (place start size next : ℕ) → stepAt bundle place ≡ Frame start size next → Found bundle place start size next
+unfolding stepAt
+step-found bundle place s l n e =
+    let t1 = not-broken (ltb (length bundle) place) _ s l n e in
+    let t2 = not-end (eqb (length bundle) place) _ s l n (t1 .1) in
+    let t3 = not-broken (ltb (length bundle) (place + 2)) _ s l n (t2 .1) in
+    let t4 = not-broken (ltb (length bundle) (place + 2 + numberAt bundle place 2)) _ s l n (t3 .1) in
+    let f : Frame (place + 2) (numberAt bundle place 2) (place + 2 + numberAt bundle place 2) ≡ Frame s l n = t4 .1 in
+    let es : place + 2 ≡ s = cc in
+    let el : numberAt bundle place 2 ≡ l = cc in
+    let en : place + 2 + numberAt bundle place 2 ≡ n = cc in
+    let fits : place + 2 + numberAt bundle place 2 ≤ length bundle = ltb-false (length bundle) (place + 2 + numberAt bundle place 2) (t4 .0) in
+    record { begins = omega arith; ends = omega arith; within = omega arith }

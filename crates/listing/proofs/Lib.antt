@@ -1,2 +1,3 @@
--- The steps of a listing.
+-- The steps of a listing, and what is shown of the whole.
 pub mod Stepping
+pub mod Theorems

@@ -2,7 +2,7 @@
  * The program "list" in plain C, over the hand-written side: reads a bundle
  * from standard input and prints what panel 0 does with it.
  */
-#include "reference.h"
+#include "../reference.h"
 
 #include <stdio.h>
 

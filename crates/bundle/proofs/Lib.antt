@@ -1,3 +1,4 @@
--- The laws of a bundle's steps, and what they say of a run of frames.
+-- The laws of a bundle's steps, what they say of a run of frames, and a reader taken apart.
 pub mod Steps
 pub mod Theorems
+pub mod Apart

@@ -1,7 +1,7 @@
 -- The steps of a bundle, one law for each case, and where a frame found lies.
-use mathlib.Core.Path.{_≡_, refl, sym, ap, _∙_}
+use mathlib.Core.Path.{_≡_, refl}
 use mathlib.Core.Bool.{Bool, true, false, cond}
-use mathlib.Core.List.{List, [], _∷_, _++_}
+use mathlib.Core.List.{List}
 use Prim.Native.Nat.{ℕ, _+_, _≤_, _<_}
 use native.Mathlib.Omega.{arith}
 use lib.Dec.{ltb, eqb}
@@ -10,7 +10,7 @@ use borrow.Author.Tests.{ltb-false, lt-ltb, le-ltb, eq-eqb, ne-eqb}
 use Rattle.numbers.specs.Numbers.{numberAt}
 use Rattle.bundle.specs.declared.Step.{Step}
 use Rattle.bundle.specs.declared.Step.the-variants.{Frame, End, Broken}
-use Rattle.bundle.specs.Bundle.{stepAt, placeAfter}
+use Rattle.bundle.specs.Bundle.{stepAt}
 
 module _ (bundle : List ℕ) (place : ℕ) where
   pub step-past : length bundle < place → stepAt bundle place ≡ Broken

@@ -2,22 +2,20 @@
 use mathlib.Core.Path.{_≡_, refl, sym, ap, _∙_}
 use mathlib.Core.Bool.{Bool, true, false, cond}
 use mathlib.Core.List.{List}
-use Prim.Native.Nat.{ℕ, _+_, _*_, _≤_, _<_}
+use Prim.Native.Nat.{ℕ, _+_, _*_, _≤_}
 use native.Mathlib.Omega.{arith}
 use lib.ListN.{length, replicate}
-use Rattle.bundle.specs.declared.Step.{Step}
 use Rattle.bundle.specs.declared.Step.the-variants.{Frame, End, Broken}
 use Rattle.bundle.specs.Bundle.{stepAt, frameAt}
 use Rattle.bundle.proofs.Steps.{step-found}
 use Rattle.rules.specs.Sizes.{outputLength}
-use Rattle.rules.specs.Results.{Result, receive, defined, Promised}
+use Rattle.rules.specs.Results.{Result, receive, Promised}
 use Rattle.rules.proofs.Theorems.{count-33}
-use Rattle.panel.specs.declared.Panel.{Panel}
 use Rattle.panel.specs.declared.Received.{Received}
 use Rattle.panel.specs.Record.{recordOf, receivedResult}
 use Rattle.text.specs.Text.{ascii}
 use Rattle.text.specs.Lines.{frameLine, handLines}
-use Rattle.text.specs.Put.{Put, Room}
+use Rattle.text.specs.Put.{Put}
 use Rattle.text.proofs.Puts.{put-put}
 use Rattle.listing.specs.declared.Listing.{Listing}
 use Rattle.listing.specs.Listing.{State, linesOf, linesAt, onward, stateAfter, goesOn, received}

@@ -6,7 +6,7 @@ use lib.ListN.{length, replicate}
 use lib.Dec.{ltb}
 use Rattle.bundle.specs.declared.Step.{Step}
 use Rattle.bundle.specs.declared.Step.the-variants.{Frame, End, Broken}
-use Rattle.bundle.specs.Bundle.{stepAt, frameAt, placeAfter}
+use Rattle.bundle.specs.Bundle.{stepAt, frameAt}
 use Rattle.rules.specs.Sizes.{outputLength}
 use Rattle.rules.specs.Panel.{Panel, fresh}
 use Rattle.rules.specs.Results.{Result, receive, defined}

@@ -1,9 +1,8 @@
 -- `bundle::step_at` meets its contract: at each return the tests that led there say which law of `Steps` holds. Assumes nothing.
-use mathlib.Core.Path.{_≡_, sym, ap, _∙_}
+use mathlib.Core.Path.{sym, ap, _∙_}
 use Prim.Native.Nat.{ℕ, _+_}
 use native.Mathlib.Omega.{arith}
 use borrow.Author.Needs.{needs}
-use Rattle.bundle.specs.declared.Step.{Step}
 use Rattle.bundle.specs.declared.Step.the-variants.{Frame}
 use Rattle.bundle.proofs.Steps.{step-past, step-end, step-short-length, step-short-frame, step-frame}
 use Rattle.bundle.proofs.step_at.Statement.{statement}

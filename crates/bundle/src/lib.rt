@@ -6,7 +6,7 @@ use numbers::number_at;
 ghost use mathlib.Core.Path.{_≡_};
 ghost use Rattle.frame.specs.Reading.{reading};
 ghost use Rattle.frame.specs.Answer.{fieldsOf};
-ghost use Rattle.bundle.specs.Bundle.{stepAt, frameAt, FramePart};
+ghost use Rattle.bundle.specs.Bundle.{stepAt, placeAfter, frameAt, FramePart};
 
 // What stands at a place: a frame, from start on, of so many bytes, and the place behind it; the end;
 // or broken. With end and broken the place stays.
@@ -62,6 +62,21 @@ pub fn part_at(bundle: &[u8], place: usize) -> &[u8]
     }
 }
 
+// The place behind the frame at a place; with end and broken it stays.
+pub fn place_after(bundle: &[u8], place: usize) -> usize
+    ensures { λ r. ⌜ r ≡ placeAfter (stepAt (now (bundle .entry)) place) place ⌝ }
+{
+    match step_at(bundle, place) {
+        Step::Frame {
+            start: _,
+            length: _,
+            next,
+        } => next,
+        Step::End => place,
+        Step::Broken => place,
+    }
+}
+
 // The reading of the frame at a place: the part in the middle of the bundle is passed to the frame
 // reading.
 pub fn read_at(bundle: &[u8], place: usize) -> Fields
@@ -97,12 +112,13 @@ pub fn part<'a>(reader: Reader<'a>) -> &'a [u8]
     part_at(reader.bundle, reader.place)
 }
 
-// The same bundle at another place.
-pub fn moved<'a>(reader: Reader<'a>, place: usize) -> Reader<'a>
-    ensures { λ r. ⌜ (r .bundle ≡ reader .entry .bundle) × (r .place ≡ place) ⌝ }
+// The reader behind that frame; with end and broken its place stays.
+pub fn after<'a>(reader: Reader<'a>) -> Reader<'a>
+    ensures { λ r. ⌜ (r .bundle ≡ reader .entry .bundle)
+        × (r .place ≡ placeAfter (stepAt (now (reader .entry .bundle)) (reader .entry .place)) (reader .entry .place)) ⌝ }
 {
     Reader {
+        place: place_after(reader.bundle, reader.place),
         bundle: reader.bundle,
-        place,
     }
 }

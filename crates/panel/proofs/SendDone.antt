@@ -1,7 +1,7 @@
 -- A send that is not turned down: document 01's send. Assumes nothing.
 use mathlib.Core.Path.{_≡_, refl, sym, ap, _∙_}
 use mathlib.Core.List.{List, [], _∷_, append-nil}
-use Prim.Native.Nat.{ℕ, _≤_}
+use Prim.Native.Nat.{ℕ, _≤_, max}
 use native.Mathlib.Omega.{arith}
 use lib.ListN.{length, length-append}
 use Rattle.numbers.specs.Numbers.{Bytes}
@@ -28,7 +28,8 @@ use Rattle.rules.proofs.LogRecords.{length-logRecord}
 use Rattle.slots.specs.Slots.{Reads, Kept}
 use Rattle.slots.proofs.Kept.{held-order}
 use Rattle.settling.specs.declared.Settling.{Settling}
-use Rattle.settling.specs.Record.{oneHanded, Stage, stage, panelAt, outputPlace, Settles}
+use Rattle.settling.specs.Record.{Stage, stage, panelAt, Settles}
+use Rattle.settling.proofs.Stages.{oneMore, oneHanded}
 use Rattle.panel.specs.Record.{recordOf, sentResult, GivenBack}
 use Rattle.panel.specs.Steps.{started}
 use Rattle.panel.specs.declared.Panel.{Panel}
@@ -71,11 +72,11 @@ module _ {p : Panel} {payload : List ℕ} {lifetime : ℕ} {output buffer : List
   handedStage =
       stage (oneHanded (started (p .own) (p .time) (p .high) (p .count)) new) (raise (p .marks) new) (raise none64 new) (over output 0 (logRecord new))
 
-  pub stage-handed : (part : List ℕ) → part ≡ frame width new → (begun after : Settling) (marks barrier written : List ℕ)
-      → begun ≡ started (p .own) (p .time) (p .high) (p .count) → after ≡ oneHanded begun (messageIn width part)
+  pub stage-handed : (part : List ℕ) → part ≡ frame width new → (begun : Settling) (high : ℕ) (marks barrier written : List ℕ)
+      → begun ≡ started (p .own) (p .time) (p .high) (p .count) → high ≡ max (p .high) (messageIn width part .deadline)
       → marks ≡ raise (p .marks) (messageIn width part) → barrier ≡ raise none64 (messageIn width part)
-      → written ≡ over output (outputPlace begun) (logRecord (messageIn width part)) → stage after marks barrier written ≡ handedStage
-  stage-handed part is begun after marks barrier written b e em eb eo =
+      → written ≡ over output 0 (logRecord (messageIn width part)) → stage (oneMore begun high) marks barrier written ≡ handedStage
+  stage-handed part is begun high marks barrier written b e em eb eo =
       let message : messageIn width part ≡ new = ap (messageIn width) is ∙ frame-message width new (omega arith, omega arith) readable in
       rw (e, em, eb, eo, message, b)
 

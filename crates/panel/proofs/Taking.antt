@@ -1,5 +1,5 @@
 -- Laws of taking a message: it is handed if it is ready, and otherwise put behind those that wait. Assumes nothing.
-use Prim.Native.Nat.{ℕ, zero, suc, _+_, _*_, _/_, _≤_, _<_}
+use Prim.Native.Nat.{ℕ, zero, suc, _+_, _*_, _/_, _≤_, _<_, max}
 use native.Mathlib.Nat.{add-zero}
 use native.Mathlib.Numerals.{add-one}
 use native.Mathlib.Omega.{arith}
@@ -23,7 +23,8 @@ use Rattle.slots.specs.Slots.{slotLength, Reads, Slots, Kept, Listed, held, fir
 use Rattle.slots.proofs.Held.{carried-reads}
 use Rattle.slots.proofs.Kept.{listed-order, held-order, slots-put, held-put, kept-put}
 use Rattle.settling.specs.declared.Settling.{Settling}
-use Rattle.settling.specs.Record.{asking, oneHanded, Stage, stage, panelAt, outputPlace}
+use Rattle.settling.specs.Record.{asking, Stage, stage, panelAt, outputPlace}
+use Rattle.settling.proofs.Stages.{oneMore, oneHanded}
 use Rattle.panel.specs.Steps.{taking, handedAtOnce, Taken}
 use Rattle.panel.proofs.MessageChecks.{ready-asking}
 
@@ -96,10 +97,11 @@ module _ (s : Settling) (marks barrier slots output frame : List ℕ) (reads : R
         size = size;
       }
 
-  pub taken-handed : ready (asking marks (s .time)) m ≡ true → (after : Settling) (marksAfter barrierAfter outputAfter : List ℕ)
-      → after ≡ oneHanded s m → marksAfter ≡ raise marks m → barrierAfter ≡ raise barrier m
-      → outputAfter ≡ over output (outputPlace s) (logRecord m) → Taken m slots before slots (stage after marksAfter barrierAfter outputAfter)
-  taken-handed ready after marksAfter barrierAfter outputAfter e em eb eo = rw (e, em, eb, eo) (handed-now ready)
+  pub taken-handed : ready (asking marks (s .time)) m ≡ true → (high : ℕ) (marksAfter barrierAfter outputAfter : List ℕ)
+      → high ≡ max (s .high) (m .deadline) → marksAfter ≡ raise marks m → barrierAfter ≡ raise barrier m
+      → outputAfter ≡ over output (outputPlace s) (logRecord m)
+      → Taken m slots before slots (stage (oneMore s high) marksAfter barrierAfter outputAfter)
+  taken-handed ready high marksAfter barrierAfter outputAfter e em eb eo = rw (e, em, eb, eo) (handed-now ready)
 
   -- not ready, it is put behind the others
   module _ (unready : ready (asking marks (s .time)) m ≡ false) (few : s .waiting < 32) where

@@ -97,7 +97,10 @@ fn take(
         (now (slots .exit)) (stage r (now (marks .exit)) (now (barrier .exit)) (now (output .exit))) ⌝ }
 {
     if ready(frame, marks, s.time) {
-        return hand(s, marks, barrier, frame, output);
+        let mut rest = s;
+        rest.high = hand(s.high, s.handed, marks, barrier, frame, output);
+        rest.handed += 1;
+        return rest;
     }
     put_frame(slots, s.waiting, frame);
     let mut rest = s;

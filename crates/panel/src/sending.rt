@@ -80,9 +80,10 @@ pub extern "C" fn panel_send<'a, 'b, 'c>(
     let mut barrier = [0u32; 64];
     let length = write(p.own, deadline as u32, entries, payload, buffer);
     let mut marks = p.marks;
-    let begun = start(p.own, p.time, p.high, p.count);
-    let handed = hand(begun, &mut marks, &mut barrier, &buffer[0..length], output);
-    let settled = settle(handed, &mut marks, &mut barrier, &p.slots, output);
+    let mut begun = start(p.own, p.time, p.high, p.count);
+    begun.high = hand(p.high, 0, &mut marks, &mut barrier, &buffer[0..length], output);
+    begun.handed = 1;
+    let settled = settle(begun, &mut marks, &mut barrier, &p.slots, output);
     let places = settled.places;
     gather(&mut p.slots, &places, settled.waiting);
     p.high = settled.high;

@@ -1,14 +1,14 @@
 -- The fields of a log record: the payload as a part of its frame, and each field put into a buffer behind those before it. Assumes nothing.
-use mathlib.Core.Path.{_≡_, ap, _∙_}
-use mathlib.Core.List.{List, _++_}
-use Prim.Native.Nat.{ℕ, _+_, _-_, _*_}
+use mathlib.Core.Path.{_≡_, sym, ap, ap₂, _∙_}
+use mathlib.Core.List.{List, _++_, append-assoc}
+use Prim.Native.Nat.{ℕ, _+_, _-_, _*_, _≤_}
 use native.Mathlib.Omega.{arith}
-use lib.ListN.{length, take, drop, replicate, length-append, length-drop}
-use lib.Seq.{take-all}
+use lib.ListN.{length, take, drop, replicate, length-append, length-drop, length-replicate, replicate-append-replicate}
+use lib.Seq.{take-all, take-at, drop-at, length-take-le}
 use Rattle.numbers.specs.Numbers.{bigEndian}
 use Rattle.numbers.specs.Buffer.{over}
 use Rattle.numbers.proofs.BigEndian.{length-bigEndian}
-use Rattle.numbers.proofs.Over.{over-over}
+use Rattle.numbers.proofs.Over.{length-over, over-over}
 use Rattle.frame.specs.Message.{Message}
 use Rattle.frame.specs.Reading.{countIn, messageIn}
 use Rattle.rules.specs.Handing.{logRecord}
@@ -30,18 +30,49 @@ over-head buffer source deadline size =
     (over-over buffer 0 (bigEndian 1 source) 1 (bigEndian 4 deadline) (simp length-bigEndian) (omega arith))
     ∙ over-over buffer 0 (bigEndian 1 source ++ bigEndian 4 deadline) 5 (bigEndian 1 size) (simp (length-append, length-bigEndian)) (omega arith)
 
-pub over-logRecord : (buffer : List ℕ) (m : Message) (size : ℕ) → size ≡ length (m .payload)
+-- other bytes over the first of those put
+pub over-again : (buffer : List ℕ) (at : ℕ) (xs rest ys : List ℕ) → length ys ≡ length xs → at ≤ length buffer
+    → over (over buffer at (xs ++ rest)) at ys ≡ over buffer at (ys ++ rest)
+unfolding over
+over-again buffer at xs rest ys e h =
+    let front = take at buffer in
+    let n : length (take at buffer) ≡ at = length-take-le at buffer h in
+    let tail = drop (at + length (xs ++ rest)) buffer in
+    let t : take at (over buffer at (xs ++ rest)) ≡ take at buffer = ap (take at) (append-assoc front (xs ++ rest) tail) ∙ take-at front (xs ++ rest ++ tail) at n in
+    let d : drop (at + length ys) (over buffer at (xs ++ rest)) ≡ rest ++ drop (at + length (xs ++ rest)) buffer =
+    ap (λ (l : List ℕ). drop (at + length ys) (l ++ tail)) (sym (append-assoc front xs rest))
+    ∙ ap (drop (at + length ys)) (append-assoc (front ++ xs) rest tail)
+    ∙ drop-at (front ++ xs) (rest ++ tail) (at + length ys) (omega (arith, length-append front xs)) in
+    let q : at + length (xs ++ rest) ≡ at + length (ys ++ rest) = omega (arith, length-append xs rest, length-append ys rest) in
+    ap₂ (λ (l k : List ℕ). l ++ ys ++ k) t d
+    ∙ ap (λ (k : ℕ). front ++ ys ++ (rest ++ drop k buffer)) q
+    ∙ sym (append-assoc (front ++ ys) rest (drop (at + length (ys ++ rest)) buffer))
+    ∙ ap (λ (l : List ℕ). l ++ drop (at + length (ys ++ rest)) buffer) (append-assoc front ys rest)
+
+abbrev zeros : ℕ → List ℕ
+zeros n = replicate n 0
+
+zeros-split : (n size : ℕ) → size ≤ n → zeros n ≡ zeros size ++ zeros (n - size)
+zeros-split n size le =
+    let all : size + (n - size) ≡ n = omega arith in
+    sym (replicate-append-replicate size (n - size) 0 ∙ ap zeros all)
+
+-- the payload goes over zeros
+pub over-logRecord : (buffer : List ℕ) (m : Message) (size : ℕ) → size ≡ length (m .payload) → size ≤ 32 → 38 ≤ length buffer
     → over
-    (over (over (over (over buffer 0 (bigEndian 1 (m .source))) 1 (bigEndian 4 (m .deadline))) 5 (bigEndian 1 size)) 6 (m .payload))
-    (6 + size)
-    (replicate (32 - size) 0)
+    (over (over (over (over buffer 0 (bigEndian 1 (m .source))) 1 (bigEndian 4 (m .deadline))) 5 (bigEndian 1 size)) 6 (replicate 32 0))
+    6
+    (m .payload)
     ≡ over buffer 0 (logRecord m)
 unfolding logRecord
-over-logRecord buffer m size e =
+over-logRecord buffer m size e few room =
     let front = head (m .source) (m .deadline) size in
-    let six : length front ≡ 6 = simp (length-append, length-bigEndian) in
-    let zeros : List ℕ = replicate (32 - size) 0 in
-    ap (λ (l : List ℕ). over (over l 6 (m .payload)) (6 + size) zeros) (over-head buffer (m .source) (m .deadline) size)
-    ∙ ap (λ (l : List ℕ). over l (6 + size) zeros) (over-over buffer 0 front 6 (m .payload) (omega arith) (omega arith))
-    ∙ over-over buffer 0 (front ++ m .payload) (6 + size) zeros (omega (arith, length-append front (m .payload))) (omega arith)
-    ∙ ap (λ (n : ℕ). over buffer 0 (head (m .source) (m .deadline) n ++ m .payload ++ replicate (32 - n) 0)) e
+    let six : length (head (m .source) (m .deadline) size) ≡ 6 = simp (length-append, length-bigEndian) in
+    let headed = over buffer 0 front in
+    let long : length (over buffer 0 (head (m .source) (m .deadline) size)) ≡ length buffer = length-over buffer 0 front (omega arith) in
+    ap (λ (l : List ℕ). over (over l 6 (zeros 32)) 6 (m .payload)) (over-head buffer (m .source) (m .deadline) size)
+    ∙ ap (λ (l : List ℕ). over (over headed 6 l) 6 (m .payload)) (zeros-split 32 size few)
+    ∙ over-again headed 6 (zeros size) (zeros (32 - size)) (m .payload) (sym e ∙ sym (length-replicate size 0)) (omega arith)
+    ∙ over-over buffer 0 front 6 (m .payload ++ zeros (32 - size)) (omega arith) (omega arith)
+    ∙ ap (over buffer 0) (sym (append-assoc front (m .payload) (zeros (32 - size))))
+    ∙ ap (λ (n : ℕ). over buffer 0 (head (m .source) (m .deadline) n ++ m .payload ++ zeros (32 - n))) e

@@ -1,5 +1,5 @@
 -- Laws of a step of settling: the message at a place is handed, and settling goes on or has ended. Assumes nothing.
-use Prim.Native.Nat.{ℕ, suc, _+_, _*_, _≤_, _<_}
+use Prim.Native.Nat.{ℕ, suc, _+_, _*_, _≤_, _<_, max}
 use native.Mathlib.Nat.{add-zero}
 use native.Mathlib.Omega.{arith}
 use mathlib.Core.Path.{_≡_, sym, ap, _∙_}
@@ -17,7 +17,7 @@ use Rattle.rules.specs.Settling.{choice, without, waitingAt, Settled, goOn, set
 use Rattle.rules.proofs.Choice.{choice-some}
 use Rattle.rules.proofs.Settling.{settle-step}
 use Rattle.slots.specs.Slots.{Listed, held}
-use Rattle.settling.specs.Record.{asking, firstIn, oneHanded, Stage, stage, panelAt, outputPlace, Leaves, HandedAt, Settles}
+use Rattle.settling.specs.Record.{asking, firstIn, Stage, stage, panelAt, outputPlace, Leaves, HandedAt, Settles}
 use Rattle.settling.specs.declared.Settling.{Settling}
 use Rattle.settling.specs.declared.First.{First}
 use Rattle.settling.proofs.Choosing.{firstIn-none, firstIn-some}
@@ -25,6 +25,15 @@ use Rattle.settling.proofs.Holding.{length-listed, held-at, length-read
 use Rattle.settling.proofs.Leaving.{take-leaves, listed-leaves, held-without}
 
 -- ---- one is handed
+
+-- one more was handed, and high is this
+abbrev pub oneMore : Settling → ℕ → Settling
+oneMore s high =
+    record { own = s .own; time = s .time; high = high; waiting = s .waiting; places = s .places; handed = s .handed + 1 }
+
+-- a message that is not listed was handed
+abbrev pub oneHanded : Settling → Message → Settling
+oneHanded s m = oneMore s (max (s .high) (m .deadline))
 
 module _ (slots : List ℕ) (place : ℕ) (s rest : Settling) (marks barrier output : List ℕ) (m : Message)
     (listed : Listed slots (s .waiting) (s .places)) (long : length (s .places) ≡ 32) (longAfter : length (rest .places) ≡ 32)
@@ -49,10 +58,10 @@ module _ (slots : List ℕ) (place : ℕ) (s rest : Settling) (marks barrier out
         listed = listed-leaves (s .places) (s .waiting) place (rest .places) (rest .waiting) (leaves .waiting) (leaves .places) slots listed;
       }
 
-  pub handed-at : (after : Settling) (marksAfter barrierAfter outputAfter : List ℕ) → after ≡ oneHanded rest m → marksAfter ≡ raise marks m
+  pub handed-at : (high : ℕ) (marksAfter barrierAfter outputAfter : List ℕ) → high ≡ max (rest .high) (m .deadline) → marksAfter ≡ raise marks m
       → barrierAfter ≡ raise barrier m → outputAfter ≡ over output (outputPlace rest) (logRecord m)
-      → HandedAt slots place (stage s marks barrier output) (stage after marksAfter barrierAfter outputAfter)
-  handed-at after marksAfter barrierAfter outputAfter e em eb eo = rw (e, em, eb, eo) handed-one
+      → HandedAt slots place (stage s marks barrier output) (stage (oneMore rest high) marksAfter barrierAfter outputAfter)
+  handed-at high marksAfter barrierAfter outputAfter e em eb eo = rw (e, em, eb, eo) handed-one
 
 -- ---- a step of settling
 

@@ -1,5 +1,5 @@
 -- The record while it settles, and what the functions on it ensure.
-use Prim.Native.Nat.{ℕ, _+_, _*_, _<_, max}
+use Prim.Native.Nat.{ℕ, _+_, _*_, _<_}
 use mathlib.Core.Path.{_≡_}
 use mathlib.Core.Bool.{Bool, true, false, cond, not, _&&_, _||_}
 use mathlib.Core.Option.{Option, none, some}
@@ -40,20 +40,6 @@ considered ready place m first =
     cond (goesBefore (m .deadline) (m .source) first && ready)
     (record { found = true; place = place; deadline = m .deadline; source = m .source })
     first
-
--- ---- handing
-
--- a message that is not listed was handed
-abbrev pub oneHanded : Settling → Message → Settling
-oneHanded s m =
-    record {
-      own = s .own;
-      time = s .time;
-      high = max (s .high) (m .deadline);
-      waiting = s .waiting;
-      places = s .places;
-      handed = s .handed + 1;
-    }
 
 -- ---- settling
 

@@ -5,10 +5,8 @@ use numbers::number_at;
 use numbers::put_bytes;
 use numbers::put_number;
 use slots::deadline;
-use slots::deadline_at;
-use slots::frame_at;
+use slots::kept_frame;
 use slots::source;
-use slots::source_at;
 ghost use mathlib.Core.Path.{_≡_};
 ghost use mathlib.Core.List.{[], _∷_};
 ghost use Prim.Native.Nat.{_+_, _*_, _≤_, _<_, max};
@@ -21,7 +19,7 @@ ghost use Rattle.rules.specs.Handing.{raise, logRecord};
 ghost use Rattle.rules.specs.Settling.{choice as choiceIn};
 ghost use Rattle.slots.specs.Slots.{Reads, Slots, Listed, held};
 ghost use Rattle.slots.specs.Slots.{frameAt as frameIn};
-ghost use Rattle.settling.specs.Record.{asking, firstIn, goesBefore, considered, oneHanded, Leaves, stage, HandedAt, Settles};
+ghost use Rattle.settling.specs.Record.{asking, firstIn, goesBefore, considered, Leaves, stage, HandedAt, Settles};
 
 // The record while it settles, but for what is lent: which slots are still waiting, so many of the
 // places in order, and how many log records have been written.
@@ -60,16 +58,13 @@ pub fn ready(frame: &[u8], marks: &[u32; 64], time: u32) -> bool
 {
     let mut bits = number_at(frame, 10, 8);
     let mut at = 18;
-    let mut panel: usize = 0;
     while bits != 0 {
-        let zeros = u64::trailing_zeros(bits);
-        panel = panel + zeros as usize;
+        let panel = u64::trailing_zeros(bits) as usize;
         let entry = number_at(frame, at, 4) as u32;
         if !is_met(entry, marks[panel], time) {
             return false;
         }
-        bits = (bits >> zeros) / 2;
-        panel += 1;
+        bits = bits & (bits - 1);
         at += 4;
     }
     true
@@ -102,12 +97,13 @@ fn consider<'a, 'b>(
     ensures { λ r. ⌜ r ≡ considered (isReady (asking (now (marks .entry)) time) (messageIn 4 (frameIn (now (slots .entry)) slot)))
         place (messageIn 4 (frameIn (now (slots .entry)) slot)) first ⌝ }
 {
-    let deadline = deadline_at(slots, slot);
-    let source = source_at(slots, slot);
+    let frame = kept_frame(slots, slot);
+    let deadline = deadline(frame);
+    let source = source(frame);
     if !goes_before(deadline, source, first) {
         return first;
     }
-    if !ready(frame_at(slots, slot), marks, time) {
+    if !ready(frame, marks, time) {
         return first;
     }
     First {
@@ -167,12 +163,12 @@ fn put_log_record(part: &mut [u8], frame: &[u8])
     put_number(part, 0, 1, source(frame) as u64);
     put_number(part, 1, 4, deadline(frame) as u64);
     put_number(part, 5, 1, length as u64);
+    put_zeros(part, 6, 32);
     put_bytes(part, 6, &frame[start..]);
-    put_zeros(part, 6 + length, 32 - length);
 }
 
 // The larger of two numbers.
-fn larger(a: u32, b: u32) -> u32
+pub fn larger(a: u32, b: u32) -> u32
     ensures { λ r. ⌜ r ≡ max a b ⌝ }
 {
     if b < a {
@@ -181,31 +177,29 @@ fn larger(a: u32, b: u32) -> u32
     b
 }
 
-// Hands the message of a readable frame. Its log record stands behind those of the messages handed
-// before it.
+// Hands the message of a readable frame, and answers the record's new high. Its log record stands
+// behind those of the messages handed before it.
 pub fn hand(
-    s: Settling,
+    high: u32,
+    handed: usize,
     marks: &mut [u32; 64],
     barrier: &mut [u32; 64],
     frame: &[u8],
     output: &mut [u8],
-) -> Settling
-    requires { ⌜ Reads (now frame) × (s .handed * 38 + 38 ≤ length (now output)) ⌝ }
-    ensures { λ r. ⌜ (r ≡ oneHanded s (messageIn 4 (now (frame .entry))))
+) -> u32
+    requires { ⌜ Reads (now frame) × (handed * 38 + 38 ≤ length (now output)) ⌝ }
+    ensures { λ r. ⌜ (r ≡ max high (messageIn 4 (now (frame .entry)) .deadline))
         × (now (marks .exit) ≡ raise (now (marks .entry)) (messageIn 4 (now (frame .entry))))
         × (now (barrier .exit) ≡ raise (now (barrier .entry)) (messageIn 4 (now (frame .entry))))
-        × (now (output .exit) ≡ over (now (output .entry)) (s .handed * 38) (logRecord (messageIn 4 (now (frame .entry))))) ⌝ }
+        × (now (output .exit) ≡ over (now (output .entry)) (handed * 38) (logRecord (messageIn 4 (now (frame .entry))))) ⌝ }
 {
-    let at = s.handed * 38;
+    let at = handed * 38;
     put_log_record(&mut output[at..], frame);
     let deadline = deadline(frame);
     let source = source(frame) as usize;
     marks[source] = larger(marks[source], deadline);
     barrier[source] = larger(barrier[source], deadline);
-    let mut rest = s;
-    rest.high = larger(rest.high, deadline);
-    rest.handed += 1;
-    rest
+    larger(high, deadline)
 }
 
 // The slot at that place leaves the list.
@@ -239,8 +233,10 @@ fn hand_at(
         (stage r (now (marks .exit)) (now (barrier .exit)) (now (output .exit))) ⌝ }
 {
     let slot = s.places[place] as usize;
-    let rest = leave(s, place);
-    hand(rest, marks, barrier, frame_at(slots, slot), output)
+    let mut rest = leave(s, place);
+    rest.high = hand(rest.high, rest.handed, marks, barrier, kept_frame(slots, slot), output);
+    rest.handed += 1;
+    rest
 }
 
 // While some waiting message is ready, the chosen one leaves the list and is handed, and settling

@@ -81,28 +81,3 @@ framed-same bs others two also e =
     = sym (numberAt-take (2 + k) others (omega arith)) ∙ ap (λ (l : List ℕ). numberAt l 0 2) e ∙ numberAt-take (2 + k) bs (omega arith) in
     let f : take k (drop 2 others) ≡ take k (drop 2 bs) = sym (drop-take 2 k others also) ∙ ap (drop 2) e ∙ drop-take 2 k bs two in
     rw (n, f)
-
--- ---- a number in the frame, where it stands in the slots
-
-reads-long : (slots : List ℕ) (slot : ℕ) → Reads (frameAt slots slot) → 19 ≤ lengthAt slots slot
-reads-long slots slot reads =
-    let start = slot * slotLength + 2 in
-    let is = frameAt-short slots slot (reads-lengthAt slots slot reads) in
-    omega (arith, zero-passed width (frameAt slots slot) reads .long, ap length is, length-take (lengthAt slots slot) (drop start slots))
-
-pub numberAt-frameAt : (slots : List ℕ) (slot at size : ℕ) → Slots slots → slot < 32 → Reads (frameAt slots slot) → at + size ≤ 19
-    → numberAt (frameAt slots slot) at size ≡ numberAt slots (slot * slotLength + 2 + at) size
-unfolding numberAt
-numberAt-frameAt slots slot at size all lt reads le =
-    let start = slot * slotLength + 2 in
-    let n = lengthAt slots slot in
-    let short = reads-lengthAt slots slot reads in
-    let is = frameAt-short slots slot short in
-    let behind : length (drop (slot * slotLength + 2) slots) ≡ length slots - (slot * slotLength + 2) = length-drop (slot * slotLength + 2) slots in
-    let long = reads-long slots slot reads in
-    let e : lengthAt slots slot ≡ at + (lengthAt slots slot - at) = omega arith in
-    ap (λ (l : List ℕ). number (take size (drop at l))) is
-    ∙ ap (λ (m : ℕ). number (take size (drop at (take m (drop start slots))))) e
-    ∙ ap (λ (l : List ℕ). number (take size l)) (drop-take at (n - at) (drop start slots) (omega arith))
-    ∙ ap number (take-take size (n - at) (drop at (drop start slots)) (omega arith))
-    ∙ ap (λ (l : List ℕ). number (take size l)) (drop-drop at start slots)

@@ -41,6 +41,18 @@ pub fn frame_at(slots: &[u8], slot: usize) -> &[u8]
     &slots[start..end]
 }
 
+// The readable frame in a slot. Its length is looked at only by those who need it.
+pub fn kept_frame(slots: &[u8], slot: usize) -> &[u8]
+    requires { ⌜ Slots (now slots) × (slot < 32) × Reads (frameIn (now slots) slot) ⌝ }
+    ensures { λ r. ⌜ now r ≡ frameIn (now (slots .entry)) slot ⌝ }
+{
+    let at = slot * 309;
+    let length = number_at(slots, at, 2) as usize;
+    let start = at + 2;
+    let end = start + length;
+    &slots[start..end]
+}
+
 // The source and the deadline of a readable frame.
 pub fn source(frame: &[u8]) -> u8
     requires { ⌜ Reads (now frame) ⌝ }
@@ -54,22 +66,6 @@ pub fn deadline(frame: &[u8]) -> u32
     ensures { λ r. ⌜ r ≡ messageIn 4 (now (frame .entry)) .deadline ⌝ }
 {
     number_at(frame, 6, 4) as u32
-}
-
-// The source and the deadline of the readable frame in a slot, read where they stand.
-pub fn source_at(slots: &[u8], slot: usize) -> u8
-    requires { ⌜ Slots (now slots) × (slot < 32) × Reads (frameIn (now slots) slot) ⌝ }
-    ensures { λ r. ⌜ r ≡ messageIn 4 (frameIn (now (slots .entry)) slot) .source ⌝ }
-{
-    let at = slot * 309 + 7;
-    slots[at]
-}
-
-pub fn deadline_at(slots: &[u8], slot: usize) -> u32
-    requires { ⌜ Slots (now slots) × (slot < 32) × Reads (frameIn (now slots) slot) ⌝ }
-    ensures { λ r. ⌜ r ≡ messageIn 4 (frameIn (now (slots .entry)) slot) .deadline ⌝ }
-{
-    number_at(slots, slot * 309 + 8, 4) as u32
 }
 
 // Whether each of the first slots holds a readable frame.
@@ -107,7 +103,7 @@ pub fn is_waiting<'a, 'b>(frame: &'a [u8], slots: &'b [u8], count: usize) -> boo
     let due = deadline(frame);
     let mut slot = 0;
     while slot < count {
-        if is_named(frame_at(slots, slot), panel, due) {
+        if is_named(kept_frame(slots, slot), panel, due) {
             return true;
         }
         slot += 1;
@@ -124,7 +120,7 @@ pub fn alive(slots: &[u8], count: usize, time: u32) -> Places
     let mut kept = 0;
     let mut slot = 0;
     while slot < count {
-        if time <= deadline(frame_at(slots, slot)) {
+        if time <= deadline(kept_frame(slots, slot)) {
             places[kept] = slot as u8;
             kept += 1;
         }

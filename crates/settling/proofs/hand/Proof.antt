@@ -21,7 +21,7 @@ unfolding raise
 raised numbers m source deadline number s d e = rw (e, s, d)
 
 abbrev start : tie.After-source → tie.Start
-start c = c .before .before .before .before .before .before .before .before .before
+start c = c .before .before .before .before .before .before .before .before
 
 source-few : (c : tie.After-source) → c .source .result < 64
 unfolding messageIn
@@ -84,30 +84,26 @@ element-write-barrier c = source-few (c .before .before .before .before)
 larger-requires-3 : tie.Need-larger-requires-3
 larger-requires-3 c κs = search needs
 
-add-rest : tie.Need-add-rest
-add-rest c = search needs
-
 same-length : tie.Need-same-length
 same-length c = search needs
 
 returns : tie.Need-returns
 returns c =
-    let high = c .before in
-    let barrier = high .before in
+    let barrier = c .before in
     let marks = barrier .before .before in
     let source = marks .before .before in
     let due = source .before in
     let put = due .before .before .before in
     let a = start source .args in
     let m = messageIn 4 (now (a .frame)) in (
-      rw (high .larger3 .ensures, due .deadline .ensures),
+      rw (c .larger3 .ensures, due .deadline .ensures),
       raised (now (a .marks)) m (source .source .result) (due .deadline .result) (marks .larger .result) (source .source .ensures)
           (due .deadline .ensures)
           (marks .larger .ensures),
       raised (now (a .barrier)) m (source .source .result) (due .deadline .result) (barrier .larger2 .result) (source .source .ensures)
           (due .deadline .ensures)
           (barrier .larger2 .ensures),
-      over-part (now (a .output)) (a .s .handed * 38) (put .put-log-record .last .0) (logRecord m) (put .put-log-record .ensures),
+      over-part (now (a .output)) (a .handed * 38) (put .put-log-record .last .0) (logRecord m) (put .put-log-record .ensures),
     )
 
 pub hand-spec : {M : Type 1} → statement M
@@ -133,6 +129,5 @@ hand-spec =
     mul-barrier
     element-write-barrier
     larger-requires-3
-    add-rest
     same-length
     returns)

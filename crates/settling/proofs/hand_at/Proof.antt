@@ -28,29 +28,35 @@ cast-slot c = search needs
 leave-requires : tie.Need-leave-requires
 leave-requires c κs = search needs
 
-frame-at-requires : tie.Need-frame-at-requires
-frame-at-requires c κs =
+kept-frame-requires : tie.Need-kept-frame-requires
+kept-frame-requires c κs =
     let s = c .before .before .before .before .before .before in
-    (s .pre .0 .0, s .pre .0 .1 .below (s .args .place) (s .pre .1 .0))
+    (s .pre .0 .0, s .pre .0 .1 .below (s .args .place) (s .pre .1 .0), s .pre .0 .1 .reads (s .args .place) (s .pre .1 .0))
 
 hand-requires : tie.Need-hand-requires
 hand-requires c κs =
     let s = c .before .before .before .before .before .before .before .before in
     let leaves = c .before .before .before .before .leave .ensures in (
-      rw (c .before .frame-at .ensures) (s .pre .0 .1 .reads (s .args .place) (s .pre .1 .0)),
+      rw (c .before .kept-frame .ensures) (s .pre .0 .1 .reads (s .args .place) (s .pre .1 .0)),
       omega (arith, s .pre .1 .0, s .pre .1 .1, leaves .handed),
     )
+
+add-rest : tie.Need-add-rest
+add-rest c =
+    let leave = c .before .before .before .before .before .before .before .before in
+    let s = leave .before .before .before .before in
+    omega (arith, s .pre .1 .0, s .pre .1 .1, leave .leave .ensures .handed)
 
 same-length : tie.Need-same-length
 same-length c = search needs
 
 returns : tie.Need-returns
 returns c =
-    let s = c .before .before .before .before .before .before .before .before .before .before .before in
+    let s = c .before .before .before .before .before .before .before .before .before .before .before .before in
     let a = s .args in
-    let leave = c .before .before .before .before .before .before .before .leave in
-    let frame = c .before .before .before .before .frame-at in
-    let hand = c .before .before .hand in
+    let leave = c .before .before .before .before .before .before .before .before .leave in
+    let frame = c .before .before .before .before .before .kept-frame in
+    let hand = c .before .before .before .hand in
     let listed = s .pre .0 .1 in
     let is =
     held-at (a .slots .now) (a .t1 .waiting) (a .t1 .places) (a .place) _ listed (omega (arith, long s, listed .few)) (s .pre .1 .0)
@@ -66,7 +72,8 @@ hand-at-spec =
     element-copy-out-slot
     cast-slot
     leave-requires
-    frame-at-requires
+    kept-frame-requires
     hand-requires
+    add-rest
     same-length
     returns)

@@ -45,11 +45,11 @@ part c = part-payload (bytes c) (ones (c .number-at .result)) (counted c)
 abbrev mask3 : tie.After-put-number-arg3 → tie.After-number-at
 mask3 c = c .before .before .before .before .before .before .before .before .before .before .before
 
-abbrev mask4 : tie.After-put-bytes-arg → tie.After-number-at
+abbrev mask4 : tie.After-put-zeros-arg → tie.After-number-at
 mask4 c = mask3 (c .before .before .before .before)
 
-abbrev mask5 : tie.After-put-zeros-arg → tie.After-number-at
-mask5 c = mask4 (c .before .before .before .before .before)
+abbrev mask5 : tie.After-put-bytes-arg → tie.After-number-at
+mask5 c = mask4 (c .before .before .before .before)
 
 number-at-requires : tie.Need-number-at-requires
 number-at-requires c κs = omega (arith, zero-passed 4 (now (c .before .before .args .frame)) (c .before .before .pre .1) .long)
@@ -87,26 +87,20 @@ put-number-requires-2 c κs = search needs
 put-number-requires-3 : tie.Need-put-number-requires-3
 put-number-requires-3 c κs = omega (arith, fits (mask3 c))
 
+put-zeros-requires : tie.Need-put-zeros-requires
+put-zeros-requires c κs = search needs
+
 sub-put-bytes : tie.Need-sub-put-bytes
-sub-put-bytes c = room (mask4 c)
+sub-put-bytes c = room (mask5 c)
 
 part-put-bytes-start : tie.Need-part-put-bytes-start
-part-put-bytes-start c = omega (arith, room (mask4 c))
+part-put-bytes-start c = omega (arith, room (mask5 c))
 
 part-put-bytes-end : tie.Need-part-put-bytes-end
 part-put-bytes-end c = search needs
 
 put-bytes-requires : tie.Need-put-bytes-requires
-put-bytes-requires c κs = rw (part (mask4 (c .before))) (omega (arith, fits (mask4 (c .before)), sized (mask4 (c .before))))
-
-add-put-zeros : tie.Need-add-put-zeros
-add-put-zeros c = search needs
-
-sub-put-zeros : tie.Need-sub-put-zeros
-sub-put-zeros c = fits (mask5 c)
-
-put-zeros-requires : tie.Need-put-zeros-requires
-put-zeros-requires c κs = omega (arith, fits (mask5 c))
+put-bytes-requires c κs = rw (part (mask5 (c .before))) (omega (arith, fits (mask5 (c .before)), sized (mask5 (c .before))))
 
 same-length : tie.Need-same-length
 same-length c = search needs
@@ -114,15 +108,15 @@ same-length c = search needs
 returns : tie.Need-returns
 returns c =
     let put5 = c .before .before in
-    let put4 = put5 .before .before .before .before in
-    let put3 = put4 .before .before .before .before .before in
+    let put4 = put5 .before .before .before .before .before in
+    let put3 = put4 .before .before .before .before in
     let put2 = put3 .before .before .before .before in
     let put1 = put2 .before .before .before .before .before in
-    let mask = mask5 (c .before .before .before) in
+    let mask = mask5 (put5 .before .before) in
     let s = mask .before .before .before in
-    put5 .put-zeros .ensures
+    put5 .put-bytes .ensures
     ∙ rw (
-      put4 .put-bytes .ensures,
+      put4 .put-zeros .ensures,
       put3 .put-number3 .ensures,
       put2 .put-number2 .ensures,
       put1 .put-number .ensures,
@@ -130,7 +124,7 @@ returns c =
       put1 .before .source .ensures,
       part mask,
     )
-    (over-logRecord (now (s .args .part)) (messageIn 4 (bytes mask)) (length (bytes mask) - start mask) (sized mask))
+    (over-logRecord (now (s .args .part)) (messageIn 4 (bytes mask)) (length (bytes mask) - start mask) (sized mask) (fits mask) (s .pre .0))
 
 pub put-log-record-spec : {M : Type 1} → statement M
 put-log-record-spec =
@@ -148,12 +142,10 @@ put-log-record-spec =
     cast-put-number-2
     put-number-requires-2
     put-number-requires-3
+    put-zeros-requires
     sub-put-bytes
     part-put-bytes-start
     part-put-bytes-end
     put-bytes-requires
-    add-put-zeros
-    sub-put-zeros
-    put-zeros-requires
     same-length
     returns)

@@ -1,14 +1,13 @@
 -- `settling::ready` meets its contract. Its loop's invariant is `MetBelow`: the entries of the panels so far are met. Assumes nothing.
 mod Turns
 use mathlib.Core.Path.{_≡_, sym, _∙_, subst}
-use Prim.Native.Nat.{ℕ, _+_, _^_, _≤_, _<_}
+use Prim.Native.Nat.{ℕ, _+_, _-_, _^_, _≤_, _<_}
 use native.Mathlib.Omega.{arith}
 use borrow.Author.Needs.{needs}
 use borrow.Author.Tests.{not-true, not-false}
 use denote.Ref.{now}
 use lib.ListN.{length, getD}
-use lib.Pow.{shr-le}
-use lib.Count.{trailingZeros}
+use lib.Bits.{and-le-r}
 use Rattle.numbers.specs.Numbers.{numberAt}
 use Rattle.frame.proofs.Passed.{zero-passed}
 use Rattle.settling.proofs.SetBits.{next}
@@ -17,10 +16,10 @@ use Rattle.settling.proofs.ready.Statement.{statement}
 use Rattle.settling.proofs.ready.Tie as tie
 
 abbrev Inv-loop : tie.InvT-loop
-Inv-loop frame marks time bits₀ at₀ panel₀ bits at panel = MetBelow frame marks time bits at panel
+Inv-loop frame marks time bits₀ at₀ bits at = MetBelow frame marks time bits at
 
 abbrev μ-loop : tie.MeasureT-loop
-μ-loop frame marks time bits₀ at₀ panel₀ bits at panel = bits
+μ-loop frame marks time bits₀ at₀ bits at = bits
 
 number-at-requires : tie.Need-number-at-requires Inv-loop μ-loop
 number-at-requires c κs = omega (arith, zero-passed 4 _ (c .before .pre) .long)
@@ -29,23 +28,20 @@ loop-holds : tie.Need-loop-holds Inv-loop μ-loop
 loop-holds c =
     let a = c .before .before .args in
     let mask = c .number-at .ensures .0 in
-    subst (λ (bits : ℕ). MetBelow (now (a .frame)) (now (a .marks)) (a .time) bits 18 0) (sym mask)
+    subst (λ (bits : ℕ). MetBelow (now (a .frame)) (now (a .marks)) (a .time) bits 18) (sym mask)
     (met-start (now (a .frame)) (now (a .marks)) (a .time) (subst (λ (bits : ℕ). bits < 2 ^ 64) mask (c .number-at .ensures .1)))
 
 -- in a turn the panel is one of 64, and its entry stands within the frame
-below : (c : tie.In-loop Inv-loop μ-loop) → next (c .before .loop .panel) (c .before .loop .bits) < 64
-below c = turn-lt _ _ _ _ _ _ (c .before .loop .inv) (c .loop-test .taken)
+below : (c : tie.In-loop Inv-loop μ-loop) → next (c .before .loop .bits) < 64
+below c = turn-lt _ _ _ _ _ (c .before .loop .inv) (c .loop-test .taken)
 
 room : (c : tie.In-loop Inv-loop μ-loop) → c .before .loop .at + 4 ≤ length (now (c .before .before .before .before .args .frame))
 room c =
     let passed = zero-passed 4 _ (c .before .before .before .before .pre) in
-    omega (arith, turn-room _ _ _ _ _ _ (c .before .loop .inv) (c .loop-test .taken), passed .room)
+    omega (arith, turn-room _ _ _ _ _ (c .before .loop .inv) (c .loop-test .taken), passed .room)
 
 cast-panel : tie.Need-cast-panel Inv-loop μ-loop
 cast-panel c = omega (arith, below c)
-
-add-panel : tie.Need-add-panel Inv-loop μ-loop
-add-panel c = omega (arith, below c)
 
 number-at-requires-2 : tie.Need-number-at-requires-2 Inv-loop μ-loop
 number-at-requires-2 c κs = omega (arith, room c)
@@ -65,22 +61,16 @@ is-met-requires c κs = tt
 -- the entry was read from its place, and tested beside the mark of its panel
 tested : (c : tie.After-is-met Inv-loop μ-loop) → let l = c .before .before .before .before .loop in
     let a = c .before .before .before .before .before .before .before .args in
-    metBy (getD (now (a .marks)) (next (l .panel) (l .bits)) 0) (a .time) (numberAt (now (a .frame)) (l .at) 4) ≡ c .is-met .result
+    metBy (getD (now (a .marks)) (next (l .bits)) 0) (a .time) (numberAt (now (a .frame)) (l .at) 4) ≡ c .is-met .result
 tested c = rw (← c .before .before .number-at2 .ensures .0) (sym (c .is-met .ensures))
 
 returns : tie.Need-returns Inv-loop μ-loop
 returns c =
     let turn = c .before .before .before .before in
-    sym (turn-stop _ _ _ _ _ _ (turn .before .loop .inv) (turn .loop-test .taken) (tested (c .before) ∙ not-true _ (c .if1 .taken)))
+    sym (turn-stop _ _ _ _ _ (turn .before .loop .inv) (turn .loop-test .taken) (tested (c .before) ∙ not-true _ (c .if1 .taken)))
 
-cast-bits : tie.Need-cast-bits Inv-loop μ-loop
-cast-bits c = omega (arith, below (c .before .before .before .before))
-
-shr-bits : tie.Need-shr-bits Inv-loop μ-loop
-shr-bits c = omega (arith, below (c .before .before .before .before))
-
-add-panel-2 : tie.Need-add-panel-2 Inv-loop μ-loop
-add-panel-2 c = omega (arith, below (c .before .before .before .before))
+sub-bits : tie.Need-sub-bits Inv-loop μ-loop
+sub-bits c = omega (arith, c .before .before .before .before .loop-test .taken)
 
 add-at : tie.Need-add-at Inv-loop μ-loop
 add-at c = search (needs, room (c .before .before .before .before))
@@ -89,15 +79,15 @@ loop-less : tie.Need-loop-less Inv-loop μ-loop
 loop-less c =
     let turn = c .before .before .before .before in
     let bits = turn .before .loop .bits in
-    omega (arith, shr-le bits (trailingZeros 64 bits), turn .loop-test .taken)
+    omega (arith, and-le-r bits (bits - 1), turn .loop-test .taken)
 
 loop-again : tie.Need-loop-again Inv-loop μ-loop
 loop-again c =
     let turn = c .before .before .before .before in
-    turn-on _ _ _ _ _ _ (turn .before .loop .inv) (turn .loop-test .taken) (tested (c .before) ∙ not-false _ (c .if1 .left))
+    turn-on _ _ _ _ _ (turn .before .loop .inv) (turn .loop-test .taken) (tested (c .before) ∙ not-false _ (c .if1 .left))
 
 returns-2 : tie.Need-returns-2 Inv-loop μ-loop
-returns-2 c = sym (met-end _ _ _ _ _ _ (c .before .loop .inv) (c .loop-test .left))
+returns-2 c = sym (met-end _ _ _ _ _ (c .before .loop .inv) (c .loop-test .left))
 
 pub ready-spec : {M : Type 1} → statement M
 ready-spec =
@@ -108,16 +98,13 @@ ready-spec =
     number-at-requires
     loop-holds
     cast-panel
-    add-panel
     number-at-requires-2
     cast-entry
     mul-is-met
     element-copy-out-is-met
     is-met-requires
     returns
-    cast-bits
-    shr-bits
-    add-panel-2
+    sub-bits
     add-at
     loop-less
     loop-again

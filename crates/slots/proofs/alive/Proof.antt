@@ -18,13 +18,15 @@ abbrev μ-loop : tie.MeasureT-loop
 loop-holds : tie.Need-loop-holds Inv-loop μ-loop
 loop-holds c = (omega arith, chosen-none _ _ _, refl)
 
-frame-at-requires : tie.Need-frame-at-requires Inv-loop μ-loop
-frame-at-requires c κs = let s = c .before .before .before in (s .pre .0, omega (arith, s .pre .1 .few))
+kept-frame-requires : tie.Need-kept-frame-requires Inv-loop μ-loop
+kept-frame-requires c κs =
+    let s = c .before .before .before in
+    (s .pre .0, omega (arith, s .pre .1 .few), s .pre .1 .reads (c .before .loop .slot) (omega arith))
 
 deadline-requires : tie.Need-deadline-requires Inv-loop μ-loop
 deadline-requires c κs =
     let s = c .before .before .before .before in
-    rw (c .frame-at .ensures) (s .pre .1 .reads (c .before .before .loop .slot) (omega arith))
+    rw (c .kept-frame .ensures) (s .pre .1 .reads (c .before .before .loop .slot) (omega arith))
 
 cast-places : tie.Need-cast-places Inv-loop μ-loop
 cast-places c = omega (arith, c .before .before .before .before .before .before .pre .1 .few)
@@ -50,7 +52,7 @@ loop-again c =
     let s = c .before .before .before .before .before .before in
     let a = s .args in
     let l = c .before .before .before .before .loop in
-    let due = rw (c .before .before .frame-at .ensures) at (c .before .deadline .ensures) in
+    let due = rw (c .before .before .kept-frame .ensures) at (c .before .deadline .ensures) in
     let reads = s .pre .1 .reads (l .slot) (omega arith) in
     ⊎-elim
     (λ w. (
@@ -75,7 +77,7 @@ alive-spec =
     Inv-loop
     μ-loop
     loop-holds
-    frame-at-requires
+    kept-frame-requires
     deadline-requires
     cast-places
     array-write-places

@@ -31,15 +31,15 @@ loop-holds c =
     let a = c .before .before .before .before .args in
     ap (λ (places : List ℕ). isWaiting (messageIn 4 (a .frame .now)) (held (a .slots .now) places)) (between-all (a .count))
 
-frame-at-requires : tie.Need-frame-at-requires Inv-loop μ-loop
-frame-at-requires c κs =
+kept-frame-requires : tie.Need-kept-frame-requires Inv-loop μ-loop
+kept-frame-requires c κs =
     let s = c .before .before .before .before .before .before in
-    (s .pre .1, omega (arith, s .pre .2 .few))
+    (s .pre .1, omega (arith, s .pre .2 .few), s .pre .2 .reads (c .before .loop .slot) (omega arith))
 
 is-named-requires : tie.Need-is-named-requires Inv-loop μ-loop
 is-named-requires c κs =
     let s = c .before .before .before .before .before .before .before in
-    rw (c .frame-at .ensures) (s .pre .2 .reads (c .before .before .loop .slot) (omega arith))
+    rw (c .kept-frame .ensures) (s .pre .2 .reads (c .before .before .loop .slot) (omega arith))
 
 -- what is asked of a slot is whether its message has the name of the frame's
 asked : (c : tie.After-is-named Inv-loop μ-loop)
@@ -51,7 +51,7 @@ asked : (c : tie.After-is-named Inv-loop μ-loop)
     (between (suc (c .before .before .before .loop .slot)) (c .before .before .before .before .before .before .before .before .args .count))))
 asked c =
     let s = c .before .before .before .before .before .before .before .before in
-    let named = rw (c .before .before .before .before .before .source .ensures, c .before .before .before .before .deadline .ensures, c .before .frame-at .ensures) at (c .is-named .ensures) in
+    let named = rw (c .before .before .before .before .before .source .ensures, c .before .before .before .before .deadline .ensures, c .before .kept-frame .ensures) at (c .is-named .ensures) in
     rw named (isWaiting-at _ _ _ _ (omega arith) (s .pre .2 .reads (c .before .before .before .loop .slot) (omega arith)))
 
 returns : tie.Need-returns Inv-loop μ-loop
@@ -84,7 +84,7 @@ is-waiting-spec =
     source-requires
     deadline-requires
     loop-holds
-    frame-at-requires
+    kept-frame-requires
     is-named-requires
     returns
     add-slot

@@ -133,7 +133,7 @@ hand-requires : tie.Need-hand-requires
 hand-requires c κs =
     let write = c .before .before .before .before .before .before .before .before .before in (
       rw (part write) (frame-reads (passed (past write))),
-      rw (c .before .before .before .before .before .start .ensures) (omega (arith, checked (passed (past write)) .output-room)),
+      omega (arith, checked (passed (past write)) .output-room),
     )
 
 settle-requires : tie.Need-settle-requires
@@ -142,7 +142,7 @@ settle-requires c κs =
     let begun = hand .before .before .before .before .before .before in
     let P = checked (passed (past (begun .before .before .before .before))) in
     let whole = valid-kept _ (P .valid) in
-    rw (hand .hand .ensures .0, begun .start .ensures) (
+    rw (begun .start .ensures) (
       (search needs, listed-order _ _ whole),
       omega (arith, whole .few, P .output-room, hand .hand .kept .1 .1 .1 .1 .0),
     )

@@ -3,12 +3,13 @@ use mathlib.Core.Path.{_≡_, refl, sym, ap, _∙_}
 use mathlib.Core.Bool.{Bool, true, false}
 use mathlib.Core.List.{List, [], _∷_}
 use Prim.Native.Nat.{ℕ, zero, suc, _+_, _-_, _*_, _/_, _%_, _^_, _≤_, _<_}
-use native.Mathlib.Nat.{add-zero, div-one, zero-mul, one-mul}
+use native.Mathlib.Nat.{add-zero, div-one, zero-div, mul-one, zero-mul, one-mul}
 use native.Mathlib.Numerals.{add-one}
 use native.Mathlib.Omega.{arith}
 use lib.ListN.{getD}
-use lib.Pow.{shr-shr}
-use lib.Count.{onesIn, trailingZeros}
+use lib.Pow.{shl-shr, shr-shr}
+use lib.Count.{onesIn}
+use lib.Bits.{bitAnd}
 use borrow.Author.Tests.{le-leb}
 use Rattle.numbers.specs.Numbers.{numberAt}
 use Rattle.numbers.proofs.NumberAt.{getD-numbersAt}
@@ -17,7 +18,7 @@ use Rattle.frame.proofs.Panels.{getD-byPanel, onesIn-lt}
 use Rattle.rules.specs.Panel.{met, lapsed, eachPanel, ready}
 use Rattle.rules.proofs.Ready.{eachPanel-true}
 use Rattle.settling.specs.Record.{asking}
-use Rattle.settling.proofs.SetBits.{next, next-set, next-lt, next-rest, onesIn-next, onesIn-after, onesIn-trailing, onesIn-zero}
+use Rattle.settling.proofs.SetBits.{from, next, More, step, next-step, next-unset, next-set, next-lt, next-rest, onesIn-next, onesIn-after, onesIn-zero}
 
 -- an entry beside the mark of its panel
 abbrev pub metBy : ℕ → ℕ → ℕ → Bool
@@ -67,60 +68,74 @@ module _ (bs marks : List ℕ) (time : ℕ) where
       go true e = sym (eachPanel-true 64 metAt e panel below) ∙ f
       go false e = refl
 
--- the entries of the panels below panel are met; the bits and the place are those of the panels that are left
-pub record MetBelow (bs marks : List ℕ) (time bits at panel : ℕ) : Type 0 where
+-- the entries of the panels below some panel are met; the bits and the place are those of the panels that are left
+pub record MetBelow (bs marks : List ℕ) (time bits at : ℕ) : Type 0 where
+  pub panel : ℕ
   pub few : panel ≤ 64
   pub fits : maskIn 4 bs < 2 ^ 64
-  pub rest : bits ≡ maskIn 4 bs / 2 ^ panel
+  pub rest : bits ≡ from panel (maskIn 4 bs)
   pub place : at ≡ placeOf bs panel
   pub all-met : eachPanel panel (metAt bs marks time) ≡ true
 
 module _ (bs marks : List ℕ) (time : ℕ) where
-  pub met-start : maskIn 4 bs < 2 ^ 64 → MetBelow bs marks time (maskIn 4 bs) 18 0
+  pub met-start : maskIn 4 bs < 2 ^ 64 → MetBelow bs marks time (maskIn 4 bs) 18
   unfolding eachPanel onesIn
-  met-start fits = record { few = omega arith; fits = fits; rest = sym (div-one (maskIn 4 bs)); place = refl; all-met = refl }
+  met-start fits = record { panel = 0; few = omega arith; fits = fits; rest = rw (div-one, mul-one); place = refl; all-met = refl }
 
-  pub met-end : (bits at panel : ℕ) → MetBelow bs marks time bits at panel → bits ≡ 0 → ready (asking marks time) (messageIn 4 bs) ≡ true
+  pub met-end : (bits at : ℕ) → MetBelow bs marks time bits at → bits ≡ 0 → ready (asking marks time) (messageIn 4 bs) ≡ true
   unfolding ready
-  met-end bits at panel m none =
-      let unset : onesIn (64 - panel) (maskIn 4 bs / 2 ^ panel) ≡ 0 = rw (← m .rest, none) (onesIn-zero (64 - panel)) in
+  met-end bits at m none =
+      let panel = m .panel in
+      let left : maskIn 4 bs / 2 ^ m .panel ≡ 0
+      = sym (shl-shr (maskIn 4 bs / 2 ^ panel) panel) ∙ ap (λ (n : ℕ). n / 2 ^ panel) (sym (m .rest) ∙ none) ∙ zero-div (2 ^ panel) in
+      let unset : onesIn (64 - m .panel) (maskIn 4 bs / 2 ^ m .panel) ≡ 0 = rw left (onesIn-zero (64 - panel)) in
       let all : panel + (64 - panel) ≡ 64 = omega (arith, m .few) in
       ap (λ (n : ℕ). eachPanel n (metAt bs marks time)) (sym all)
       ∙ metAt-skip bs marks time panel (64 - panel) (omega (arith, m .few)) unset (m .all-met)
 
 -- a turn, to the next panel whose bit is set
-module _ (bs marks : List ℕ) (time bits at panel : ℕ) (m : MetBelow bs marks time bits at panel) (more : bits ≡ 0 → ⊥) where
-  turn-set : maskIn 4 bs / 2 ^ next panel bits % 2 ≡ 1
-  turn-set = next-set (maskIn 4 bs) panel bits (m .fits) (m .rest) more
+module _ (bs marks : List ℕ) (time bits at : ℕ) (m : MetBelow bs marks time bits at) (some : bits ≡ 0 → ⊥) where
+  abbrev mask : ℕ
+  mask = maskIn 4 bs
 
-  pub turn-lt : next panel bits < 64
-  turn-lt = next-lt (maskIn 4 bs) panel bits (m .fits) (m .rest) more
+  left : More mask (m .panel) bits
+  left = record { few = m .few; fits = m .fits; rest = m .rest; some = some }
 
-  turn-place : placeOf bs (next panel bits) ≡ at
-  turn-place = omega (arith, m .place, onesIn-next (maskIn 4 bs) panel bits (m .fits) (m .rest) more)
+  turn-set : mask / 2 ^ next bits % 2 ≡ 1
+  turn-set = next-set left
+
+  pub turn-lt : next bits < 64
+  turn-lt = next-lt left
+
+  turn-place : placeOf bs (next bits) ≡ at
+  turn-place = omega (arith, m .place, onesIn-next left)
 
   -- its entry stands within the frame's entries
   pub turn-room : at + 4 ≤ 18 + 4 * countIn 4 bs
-  turn-room = omega (arith, turn-place, onesIn-lt 64 (maskIn 4 bs) (next panel bits) turn-lt turn-set)
+  turn-room = omega (arith, turn-place, onesIn-lt 64 mask (next bits) turn-lt turn-set)
 
-  turn-met : metAt bs marks time (next panel bits) ≡ metBy (getD marks (next panel bits) 0) time (numberAt bs at 4)
+  turn-met : metAt bs marks time (next bits) ≡ metBy (getD marks (next bits) 0) time (numberAt bs at 4)
   turn-met =
-      metAt-set bs marks time (next panel bits) turn-lt turn-set
-      ∙ ap (λ (k : ℕ). metBy (getD marks (next panel bits) 0) time (numberAt bs k 4)) turn-place
+      metAt-set bs marks time (next bits) turn-lt turn-set
+      ∙ ap (λ (k : ℕ). metBy (getD marks (next bits) 0) time (numberAt bs k 4)) turn-place
 
-  pub turn-stop : metBy (getD marks (next panel bits) 0) time (numberAt bs at 4) ≡ false → ready (asking marks time) (messageIn 4 bs) ≡ false
-  turn-stop f = ready-unmet bs marks time (next panel bits) turn-lt (turn-met ∙ f)
+  pub turn-stop : metBy (getD marks (next bits) 0) time (numberAt bs at 4) ≡ false → ready (asking marks time) (messageIn 4 bs) ≡ false
+  turn-stop f = ready-unmet bs marks time (next bits) turn-lt (turn-met ∙ f)
 
-  pub turn-on : metBy (getD marks (next panel bits) 0) time (numberAt bs at 4) ≡ true
-      → MetBelow bs marks time (bits / 2 ^ trailingZeros 64 bits / 2) (at + 4) (next panel bits + 1)
+  -- the entries of the panels before it are met
+  turn-skip : eachPanel (next bits) (metAt bs marks time) ≡ true
+  turn-skip =
+      rw (next-step left)
+      (metAt-skip bs marks time (m .panel) (step left) (omega (arith, turn-lt, next-step left)) (next-unset left) (m .all-met))
+
+  pub turn-on : metBy (getD marks (next bits) 0) time (numberAt bs at 4) ≡ true → MetBelow bs marks time (bitAnd bits (bits - 1)) (at + 4)
   unfolding eachPanel
   turn-on t =
-      let unset : onesIn (trailingZeros 64 bits) (maskIn 4 bs / 2 ^ panel) ≡ 0 = rw (← m .rest) (onesIn-trailing 64 bits) in
-      let skipped = metAt-skip bs marks time panel (trailingZeros 64 bits) (omega (arith, turn-lt)) unset (m .all-met) in
       record {
+        panel = next bits + 1;
         few = omega (arith, turn-lt);
         fits = m .fits;
-        rest = next-rest (maskIn 4 bs) panel bits (m .fits) (m .rest) more;
-        place = omega (arith, m .place, onesIn-after (maskIn 4 bs) panel bits (m .fits) (m .rest) more);
-        all-met = rw (add-one, skipped, turn-met) t;
+        rest = next-rest left;
+        place = omega (arith, m .place, onesIn-after left);
+        all-met = rw (add-one, turn-skip, turn-met) t;
       }

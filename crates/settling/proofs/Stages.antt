@@ -1,23 +1,24 @@
 -- Laws of a step of settling: the message at a place is handed, and settling goes on or has ended. Assumes nothing.
-use Prim.Native.Nat.{ℕ, suc, _+_, _*_, _≤_, _<_, max}
+use Prim.Native.Nat.{ℕ, suc, _+_, _-_, _*_, _≤_, _<_, max}
 use native.Mathlib.Nat.{add-zero}
 use native.Mathlib.Omega.{arith}
-use mathlib.Core.Path.{_≡_, sym, ap, _∙_}
+use mathlib.Core.Path.{_≡_, refl, sym, ap, _∙_}
 use mathlib.Core.Bool.{true, false}
 use mathlib.Core.Option.{none, some}
 use mathlib.Core.List.{List, [], _∷_}
-use lib.ListN.{length, take}
+use lib.ListN.{length, getD, take}
 use Rattle.numbers.specs.Buffer.{over}
 use Rattle.numbers.proofs.Over.{over-nil, over-over}
 use Rattle.frame.specs.Message.{Message, messageOf}
-use Rattle.rules.specs.Sizes.{logRecordLength}
+use Rattle.frame.specs.Reading.{messageIn}
+use Rattle.rules.specs.Sizes.{width, logRecordLength}
 use Rattle.rules.specs.Panel.{Panel}
 use Rattle.rules.specs.Handing.{raise, hand, logRecord, logRecords}
-use Rattle.rules.specs.Settling.{choice, without, waitingAt, Settled, goOn, settle}
+use Rattle.rules.specs.Settling.{choice, without, withWaiting, waitingAt, Settled, goOn, settle}
 use Rattle.rules.proofs.Choice.{choice-some}
 use Rattle.rules.proofs.Settling.{settle-step}
-use Rattle.slots.specs.Slots.{Listed, held}
-use Rattle.settling.specs.Record.{asking, firstIn, Stage, stage, panelAt, outputPlace, Leaves, HandedAt, Settles}
+use Rattle.slots.specs.Slots.{Listed, frameAt, held}
+use Rattle.settling.specs.Record.{asking, firstIn, Stage, stage, panelAt, outputPlace, Leaves, Settles}
 use Rattle.settling.specs.declared.Settling.{Settling}
 use Rattle.settling.specs.declared.First.{First}
 use Rattle.settling.proofs.Choosing.{firstIn-none, firstIn-some}
@@ -26,47 +27,61 @@ use Rattle.settling.proofs.Leaving.{take-leaves, listed-leaves, held-wi
 
 -- ---- one is handed
 
--- one more was handed, and high is this
-abbrev pub oneMore : Settling → ℕ → Settling
-oneMore s high =
-    record { own = s .own; time = s .time; high = high; waiting = s .waiting; places = s .places; handed = s .handed + 1 }
+-- a message that has left the list was handed
+abbrev pub oneHanded : Settling → ℕ → Settling
+oneHanded s high = record { own = s .own; time = s .time; high = high; waiting = s .waiting - 1; handed = s .handed + 1 }
 
--- a message that is not listed was handed
-abbrev pub oneHanded : Settling → Message → Settling
-oneHanded s m = oneMore s (max (s .high) (m .deadline))
+-- the record once the message at a place has left the list and was handed
+abbrev handedFrom : Panel → ℕ → Panel
+handedFrom p place = hand (withWaiting p (without place (p .waiting))) (waitingAt p place)
 
-module _ (slots : List ℕ) (place : ℕ) (s rest : Settling) (marks barrier output : List ℕ) (m : Message)
-    (listed : Listed slots (s .waiting) (s .places)) (long : length (s .places) ≡ 32) (longAfter : length (rest .places) ≡ 32)
-    (lt : place < s .waiting) (is : waitingAt (panelAt slots (stage s marks barrier output)) place ≡ m) (leaves : Leaves place s rest) where
-  messages : held slots (take (rest .waiting) (rest .places)) ≡ without place (held slots (take (s .waiting) (s .places)))
+-- the message at a place has left the list and was handed
+pub record HandedAt (slots : List ℕ) (place : ℕ) (before after : Stage) : Type 0 where
+  pub panel : panelAt slots after ≡ handedFrom (panelAt slots before) place
+  pub output : after .output ≡ over (before .output) (outputPlace (before .left)) (logRecord (waitingAt (panelAt slots before) place))
+  pub handed : after .left .handed ≡ before .left .handed + 1
+  pub waiting : after .left .waiting + 1 ≡ before .left .waiting
+  pub listed : Listed slots (after .left .waiting) (after .places)
+
+module _ (slots : List ℕ) (place : ℕ) (s : Settling) (places rest marks barrier output : List ℕ) (m : Message)
+    (listed : Listed slots (s .waiting) places) (long : length places ≡ 32)
+    (lt : place < s .waiting) (is : messageIn width (frameAt slots (getD places place 0)) ≡ m) (leaves : Leaves (s .waiting) place places rest) where
+  abbrev before : Stage
+  before = stage s places marks barrier output
+
+  one : s .waiting - 1 + 1 ≡ s .waiting
+  one = omega arith
+
+  messages : held slots (take (s .waiting - 1) rest) ≡ without place (held slots (take (s .waiting) places))
   messages =
       ap (held slots)
-      (take-leaves (s .places) (s .waiting) place (rest .places) (rest .waiting) (leaves .waiting) (leaves .places) lt
-      (omega (arith, listed .few))
-      (omega (arith, listed .few, leaves .waiting)))
-      ∙ held-without slots (take (s .waiting) (s .places)) place
+      (take-leaves places (s .waiting) place rest (s .waiting - 1) one (λ k h. leaves .moves k (omega arith)) lt (omega (arith, listed .few)) (omega (arith, listed .few, leaves .long)))
+      ∙ held-without slots (take (s .waiting) places) place
 
-  handed-one : HandedAt slots place (stage s marks barrier output)
-      (stage (oneHanded rest m) (raise marks m) (raise barrier m) (over output (outputPlace rest) (logRecord m)))
+  it : waitingAt (panelAt slots before) place ≡ m
+  it = held-at slots (s .waiting) places place (messageOf 0 0 [] []) listed (omega (arith, listed .few)) lt ∙ is
+
+  handed-one : HandedAt slots place before
+      (stage (oneHanded s (max (s .high) (m .deadline))) rest (raise marks m) (raise barrier m) (over output (outputPlace s) (logRecord m)))
   unfolding hand
   handed-one =
       record {
-        panel = rw is (simp (leaves .own, leaves .time, leaves .high, messages));
-        output = rw is (ap (λ (n : ℕ). over output (n * logRecordLength) (logRecord m)) (leaves .handed));
-        handed = ap (λ (n : ℕ). n + 1) (leaves .handed);
-        waiting = leaves .waiting;
-        listed = listed-leaves (s .places) (s .waiting) place (rest .places) (rest .waiting) (leaves .waiting) (leaves .places) slots listed;
+        panel = rw it (simp messages);
+        output = rw it refl;
+        handed = refl;
+        waiting = one;
+        listed = listed-leaves places (s .waiting) place rest (s .waiting - 1) one (λ k h. leaves .moves k (omega arith)) slots listed;
       }
 
-  pub handed-at : (high : ℕ) (marksAfter barrierAfter outputAfter : List ℕ) → high ≡ max (rest .high) (m .deadline) → marksAfter ≡ raise marks m
-      → barrierAfter ≡ raise barrier m → outputAfter ≡ over output (outputPlace rest) (logRecord m)
-      → HandedAt slots place (stage s marks barrier output) (stage (oneMore rest high) marksAfter barrierAfter outputAfter)
+  pub handed-at : (high : ℕ) (marksAfter barrierAfter outputAfter : List ℕ) → high ≡ max (s .high) (m .deadline) → marksAfter ≡ raise marks m
+      → barrierAfter ≡ raise barrier m → outputAfter ≡ over output (outputPlace s) (logRecord m)
+      → HandedAt slots place before (stage (oneHanded s high) rest marksAfter barrierAfter outputAfter)
   handed-at high marksAfter barrierAfter outputAfter e em eb eo = rw (e, em, eb, eo) handed-one
 
 -- ---- a step of settling
 
 module _ (slots : List ℕ) (s : Stage) where
-  settles-end : Listed slots (s .left .waiting) (s .left .places) → choice (panelAt slots s) (panelAt slots s .waiting) ≡ none → Settles slots s s
+  settles-end : Listed slots (s .left .waiting) (s .places) → choice (panelAt slots s) (panelAt slots s .waiting) ≡ none → Settles slots s s
   unfolding goOn logRecords
   settles-end listed e =
       let p = panelAt slots s in
@@ -106,25 +121,25 @@ module _ (slots : List ℕ) (s : Stage) where
       }
 
 -- a step as the code takes it, from what `choice` found
-module _ (slots : List ℕ) (s : Stage) (listed : Listed slots (s .left .waiting) (s .left .places))
-    (long : length (s .left .places) ≡ 32) (first : First)
+module _ (slots : List ℕ) (s : Stage) (listed : Listed slots (s .left .waiting) (s .places))
+    (long : length (s .places) ≡ 32) (first : First)
     (is : first ≡ firstIn (panelAt slots s .waiting) (choice (asking (s .marks) (s .left .time)) (panelAt slots s .waiting))) where
   pub settles-none : first .found ≡ false → Settles slots s s
   settles-none e = settles-end slots s listed (firstIn-none (panelAt slots s) (panelAt slots s .waiting) first is e)
 
-  few : s .left .waiting ≤ length (s .left .places)
+  few : s .left .waiting ≤ length (s .places)
   few = omega (arith, listed .few)
 
   pub found-below : first .found ≡ true → first .place < s .left .waiting
   found-below e =
       let p = panelAt slots s in
       let chosen = firstIn-some p (p .waiting) first is e in
-      omega (arith, choice-some p (p .waiting) (waitingAt p 0) (first .place) chosen .0, length-listed slots (s .left .waiting) (s .left .places) few)
+      omega (arith, choice-some p (p .waiting) (waitingAt p 0) (first .place) chosen .0, length-listed slots (s .left .waiting) (s .places) few)
 
   length-found : first .found ≡ true → length (logRecord (waitingAt (panelAt slots s) (first .place))) ≡ logRecordLength
   length-found e =
       let lt = found-below e in
-      rw (held-at slots (s .left .waiting) (s .left .places) (first .place) (messageOf 0 0 [] []) listed few lt)
+      rw (held-at slots (s .left .waiting) (s .places) (first .place) (messageOf 0 0 [] []) listed few lt)
       (length-readable _ (listed .reads (first .place) lt))
 
   pub settles-some : first .found ≡ true → outputPlace (s .left) ≤ length (s .output) → (t u : Stage) → HandedAt slots (first .place) s t

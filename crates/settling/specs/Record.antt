@@ -10,8 +10,8 @@ use Rattle.numbers.specs.Buffer.{over}
 use Rattle.frame.specs.Message.{Message, messageOf}
 use Rattle.rules.specs.Sizes.{logRecordLength}
 use Rattle.rules.specs.Panel.{Panel}
-use Rattle.rules.specs.Handing.{hand, logRecord, logRecords}
-use Rattle.rules.specs.Settling.{settle, without, withWaiting, waitingAt}
+use Rattle.rules.specs.Handing.{logRecords}
+use Rattle.rules.specs.Settling.{settle}
 use Rattle.slots.specs.Slots.{Listed, held}
 use Rattle.settling.specs.declared.Settling.{Settling}
 use Rattle.settling.specs.declared.First.{First}
@@ -46,12 +46,13 @@ considered ready place m first =
 -- where settling stands: what is left, and what is lent beside the slots
 pub record Stage : Type 0 where
   pub left : Settling
+  pub places : List ℕ
   pub marks : List ℕ
   pub barrier : List ℕ
   pub output : List ℕ
 
-abbrev pub stage : Settling → List ℕ → List ℕ → List ℕ → Stage
-stage left marks barrier output = record { left = left; marks = marks; barrier = barrier; output = output }
+abbrev pub stage : Settling → List ℕ → List ℕ → List ℕ → List ℕ → Stage
+stage left places marks barrier output = record { left = left; places = places; marks = marks; barrier = barrier; output = output }
 
 -- the record that is left: the messages in the slots listed are waiting
 abbrev pub panelAt : List ℕ → Stage → Panel
@@ -62,37 +63,21 @@ panelAt slots s =
       high = s .left .high;
       marks = s .marks;
       barrier = s .barrier;
-      waiting = held slots (take (s .left .waiting) (s .left .places));
+      waiting = held slots (take (s .left .waiting) (s .places));
     }
 
 -- the place in the output behind the log records written
 abbrev pub outputPlace : Settling → ℕ
 outputPlace left = left .handed * logRecordLength
 
--- the place has left the list, and nothing else has changed
-pub record Leaves (place : ℕ) (before after : Settling) : Type 0 where
-  pub own : after .own ≡ before .own
-  pub time : after .time ≡ before .time
-  pub high : after .high ≡ before .high
-  pub handed : after .handed ≡ before .handed
-  pub waiting : after .waiting + 1 ≡ before .waiting
-  pub places : (k : ℕ) → k < after .waiting → getD (after .places) k 0 ≡ getD (before .places) (cond (ltb k place) k (k + 1)) 0
-
--- the record once the message at a place has left the list and was handed
-abbrev pub handedFrom : Panel → ℕ → Panel
-handedFrom p place = hand (withWaiting p (without place (p .waiting))) (waitingAt p place)
-
--- the message at a place has left the list and was handed
-pub record HandedAt (slots : List ℕ) (place : ℕ) (before after : Stage) : Type 0 where
-  pub panel : panelAt slots after ≡ handedFrom (panelAt slots before) place
-  pub output : after .output ≡ over (before .output) (outputPlace (before .left)) (logRecord (waitingAt (panelAt slots before) place))
-  pub handed : after .left .handed ≡ before .left .handed + 1
-  pub waiting : after .left .waiting + 1 ≡ before .left .waiting
-  pub listed : Listed slots (after .left .waiting) (after .left .places)
+-- a place has left the list of so many, and those behind it have moved up by one
+pub record Leaves (waiting place : ℕ) (before after : List ℕ) : Type 0 where
+  pub moves : (k : ℕ) → k + 1 < waiting → getD after k 0 ≡ getD before (cond (ltb k place) k (k + 1)) 0
+  pub long : length after ≡ length before
 
 -- the record has settled, and the log records of the messages handed stand in the output
 pub record Settles (slots : List ℕ) (before after : Stage) : Type 0 where
   pub panel : panelAt slots after ≡ settle (panelAt slots before) .panel
   pub output : after .output ≡ over (before .output) (outputPlace (before .left)) (logRecords (settle (panelAt slots before) .handed))
   pub handed : after .left .handed ≡ before .left .handed + length (settle (panelAt slots before) .handed)
-  pub listed : Listed slots (after .left .waiting) (after .left .places)
+  pub listed : Listed slots (after .left .waiting) (after .places)

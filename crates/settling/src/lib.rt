@@ -10,7 +10,7 @@ use slots::source;
 ghost use mathlib.Core.Path.{_≡_};
 ghost use mathlib.Core.List.{[], _∷_};
 ghost use Prim.Native.Nat.{_+_, _*_, _≤_, _<_, max};
-ghost use lib.ListN.{length, take, replicate};
+ghost use lib.ListN.{length, getD, take, replicate};
 ghost use Rattle.numbers.specs.Buffer.{over};
 ghost use Rattle.frame.specs.Reading.{messageIn};
 ghost use Rattle.rules.specs.Panel.{met};
@@ -19,17 +19,16 @@ ghost use Rattle.rules.specs.Handing.{raise, logRecord};
 ghost use Rattle.rules.specs.Settling.{choice as choiceIn};
 ghost use Rattle.slots.specs.Slots.{Reads, Slots, Listed, held};
 ghost use Rattle.slots.specs.Slots.{frameAt as frameIn};
-ghost use Rattle.settling.specs.Record.{asking, firstIn, goesBefore, considered, Leaves, stage, HandedAt, Settles};
+ghost use Rattle.settling.specs.Record.{asking, firstIn, goesBefore, considered, Leaves, stage, Settles};
 
-// The record while it settles, but for what is lent: which slots are still waiting, so many of the
-// places in order, and how many log records have been written.
+// The record while it settles, but for what is lent: how many messages still wait, in the slots that
+// the first of the places list, and how many log records have been written.
 #[repr(C)]
 pub struct Settling {
     pub own: u8,
     pub time: u32,
     pub high: u32,
     pub waiting: usize,
-    pub places: [u8; 32],
     pub handed: usize,
 }
 
@@ -202,61 +201,48 @@ pub fn hand(
     larger(high, deadline)
 }
 
-// The slot at that place leaves the list.
-fn leave(s: Settling, place: usize) -> Settling
-    requires { ⌜ (s .waiting ≤ 32) × (place < s .waiting) ⌝ }
-    ensures { λ r. ⌜ Leaves place s r ⌝ }
+// The slot at that place leaves the list, and is the answer; those behind it move up.
+fn leave(places: &mut [u8; 32], waiting: usize, place: usize) -> u8
+    requires { ⌜ (length (now places) ≡ 32) × (waiting ≤ 32) × (place < waiting) ⌝ }
+    ensures { λ r. ⌜ (r ≡ getD (now (places .entry)) place 0) × Leaves waiting place (now (places .entry)) (now (places .exit)) ⌝ }
 {
-    let mut rest = s;
-    let last = s.waiting - 1;
+    let slot = places[place];
+    let last = waiting - 1;
     let mut i = place;
     while i < last {
-        rest.places[i] = rest.places[i + 1];
+        places[i] = places[i + 1];
         i += 1;
     }
-    rest.waiting = last;
-    rest
-}
-
-// The message at that place leaves the list and is handed.
-fn hand_at(
-    s: Settling,
-    place: usize,
-    marks: &mut [u32; 64],
-    barrier: &mut [u32; 64],
-    slots: &[u8],
-    output: &mut [u8],
-) -> Settling
-    requires { ⌜ Slots (now slots) × Listed (now slots) (s .waiting) (s .places) ⌝ }
-    requires { ⌜ (place < s .waiting) × ((s .handed + s .waiting) * 38 ≤ length (now output)) ⌝ }
-    ensures { λ r. ⌜ HandedAt (now (slots .entry)) place (stage s (now (marks .entry)) (now (barrier .entry)) (now (output .entry)))
-        (stage r (now (marks .exit)) (now (barrier .exit)) (now (output .exit))) ⌝ }
-{
-    let slot = s.places[place] as usize;
-    let mut rest = leave(s, place);
-    rest.high = hand(rest.high, rest.handed, marks, barrier, kept_frame(slots, slot), output);
-    rest.handed += 1;
-    rest
+    slot
 }
 
 // While some waiting message is ready, the chosen one leaves the list and is handed, and settling
 // goes on with the record that is left.
 pub fn settle(
     s: Settling,
+    places: &mut [u8; 32],
     marks: &mut [u32; 64],
     barrier: &mut [u32; 64],
     slots: &[u8],
     output: &mut [u8],
 ) -> Settling
-    requires { ⌜ Slots (now slots) × Listed (now slots) (s .waiting) (s .places) ⌝ }
+    requires { ⌜ Slots (now slots) × Listed (now slots) (s .waiting) (now places) × (length (now places) ≡ 32) ⌝ }
     requires { ⌜ (s .handed + s .waiting) * 38 ≤ length (now output) ⌝ }
-    ensures { λ r. ⌜ Settles (now (slots .entry)) (stage s (now (marks .entry)) (now (barrier .entry)) (now (output .entry)))
-        (stage r (now (marks .exit)) (now (barrier .exit)) (now (output .exit))) ⌝ }
+    ensures { λ r. ⌜ Settles (now (slots .entry)) (stage s (now (places .entry)) (now (marks .entry)) (now (barrier .entry)) (now (output .entry)))
+        (stage r (now (places .exit)) (now (marks .exit)) (now (barrier .exit)) (now (output .exit))) ⌝ }
 {
-    let next = choice(s.waiting, &s.places, marks, s.time, slots);
+    let next = choice(s.waiting, places, marks, s.time, slots);
     if !next.found {
         return s;
     }
-    let rest = hand_at(s, next.place, marks, barrier, slots, output);
-    settle(rest, marks, barrier, slots, output)
+    let slot = leave(places, s.waiting, next.place) as usize;
+    let high = hand(s.high, s.handed, marks, barrier, kept_frame(slots, slot), output);
+    let rest = Settling {
+        own: s.own,
+        time: s.time,
+        high,
+        waiting: s.waiting - 1,
+        handed: s.handed + 1,
+    };
+    settle(rest, places, marks, barrier, slots, output)
 }

@@ -43,15 +43,15 @@ valid-kept p valid =
     (true-eachReadable (held (p .slots) (firstSlots (p .count))) (valid .waiting))
 
 -- the record given back: the frames in the slots listed have moved up to the first slots
-pub gathered-record : (slots : List ℕ) (begun : Stage) (s : Settling) (marks barrier output after : List ℕ)
-    → Settles slots begun (stage s marks barrier output) → length (s .places) ≡ 32 → Gathered slots (s .places) (s .waiting) after
+pub gathered-record : (slots : List ℕ) (begun : Stage) (s : Settling) (places marks barrier output after : List ℕ)
+    → Settles slots begun (stage s places marks barrier output) → length (begun .places) ≡ 32 → Gathered slots places (s .waiting) after
     → (own time : ℕ) → begun .left .own ≡ own → begun .left .time ≡ time
-    → recordWith own time (s .high) marks barrier after (s .waiting) ≡ panelAt slots (stage s marks barrier output)
-gathered-record slots begun s marks barrier output after settles long gathered own time same-own same-time =
+    → recordWith own time (s .high) marks barrier after (s .waiting) ≡ panelAt slots (stage s places marks barrier output)
+gathered-record slots begun s places marks barrier output after settles long gathered own time same-own same-time =
     let settled = settle-settles (panelAt slots begun) in
     let kept-own : s .own ≡ own = ap (λ (p : Record). p .own) (settles .panel) ∙ settled .own ∙ same-own in
     let kept-time : s .time ≡ time = ap (λ (p : Record). p .time) (settles .panel) ∙ settled .time ∙ same-time in
-    rw (← kept-own, ← kept-time, held-gathered slots (s .places) (s .waiting) after (omega (arith, settles .listed .few)) gathered)
+    rw (← kept-own, ← kept-time, held-gathered slots places (s .waiting) after (omega (arith, settles .listed .few, settles .long)) gathered)
 
 logRecords-append : (ms more : List Message) → logRecords (ms ++ more) ≡ logRecords ms ++ logRecords more
 unfolding logRecords

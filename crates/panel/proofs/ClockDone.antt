@@ -21,10 +21,10 @@ use Rattle.panel.proofs.Answering.{settled-promised}
 module _ (p : Panel) (time : ℕ) (output : List ℕ) (kept : Places) (alive : Alive (p .slots) (p .count) time kept) where
   -- the record with its time set and the lapsed dropped, as it begins to settle
   abbrev pub begun : Settling
-  begun = record { own = p .own; time = time; high = p .high; waiting = kept .count; places = kept .slots; handed = 0 }
+  begun = record { own = p .own; time = time; high = p .high; waiting = kept .count; handed = 0 }
 
   abbrev pub begunStage : Stage
-  begunStage = stage begun (p .marks) (p .barrier) output
+  begunStage = stage begun (kept .slots) (p .marks) (p .barrier) output
 
   panel-begun : panelAt (p .slots) begunStage ≡ dropLapsed (withTime (recordOf p) time)
   panel-begun = ap (λ (ms : List Message). withWaiting (withTime (recordOf p) time) ms) (alive .messages (withTime (recordOf p) time) refl)

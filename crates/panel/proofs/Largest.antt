@@ -2,14 +2,21 @@
 use mathlib.Core.Path.{_≡_, refl, sym}
 use mathlib.Core.Bool.{Bool, true, false, _&&_}
 use mathlib.Core.List.{List}
-use Prim.Native.Nat.{ℕ, zero, suc, _-_, _≤_, _<_, max}
+use Prim.Native.Nat.{ℕ, zero, suc, _+_, _-_, _≤_, _<_, max}
 use native.Mathlib.Numerals.{sub-one}
 use native.Mathlib.Omega.{arith}
 use lib.ListN.{length, getD, drop}
 use lib.Seq.{drop-cons}
-use lib.Dec.{ltb}
-use borrow.Author.Tests.{lt-ltb, le-ltb, ltb-true, ltb-false}
+use lib.Dec.{leb, ltb}
+use borrow.Author.Tests.{lt-ltb, le-ltb, ltb-true, ltb-false, leb-true, leb-false}
 use Rattle.frame.specs.Readable.{eachBelow}
+
+pub leb-ltb : (a b : ℕ) → leb a b ≡ ltb a (b + 1)
+leb-ltb a b = go (leb a b) refl
+  where
+    go : (x : Bool) → leb a b ≡ x → x ≡ ltb a (b + 1)
+    go true e = sym (lt-ltb a (b + 1) (omega (arith, leb-true a b e)))
+    go false e = sym (le-ltb a (b + 1) (omega (arith, leb-false a b e)))
 
 ltb-max : (a b limit : ℕ) → (ltb b limit && ltb a limit) ≡ ltb (max a b) limit
 ltb-max a b limit = go (ltb b limit) (ltb a limit) refl refl

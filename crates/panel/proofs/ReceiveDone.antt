@@ -22,18 +22,20 @@ use Rattle.rules.proofs.Checks.{receive-passed}
 use Rattle.slots.specs.Slots.{Reads, Kept, held, firstSlots}
 use Rattle.slots.proofs.Held.{length-firstSlots}
 use Rattle.slots.proofs.Kept.{held-order}
-use Rattle.settling.specs.Record.{Stage, stage, panelAt, Settles}
+use Rattle.settling.specs.Record.{asking, Stage, stage, panelAt, Settles}
 use Rattle.settling.proofs.Holding.{length-readable}
 use Rattle.panel.specs.Record.{recordOf, receivedResult, GivenBack}
-use Rattle.panel.specs.Steps.{started, taking, handedAtOnce, Taken}
+use Rattle.panel.specs.Steps.{taking, handedAtOnce, Taken}
 use Rattle.panel.specs.declared.Panel.{Panel}
+use Rattle.panel.proofs.MessageChecks.{ready-asking}
 use Rattle.panel.proofs.Answering.{afterwards, settled-promised}
 
--- the record as it begins to settle, with what is lent beside the slots
-abbrev pub startedStage : Panel → List ℕ → List ℕ → Stage
-startedStage p barrier output = stage (started (p .own) (p .time) (p .high) (p .count)) (p .marks) barrier output
+-- the record as it begins, with what is lent beside the slots: all of the first slots are listed, nothing was handed
+abbrev pub begunStage : Panel → List ℕ → Stage
+begunStage p output =
+    stage (record { own = p .own; time = p .time; high = p .high; waiting = p .count; handed = 0 }) (firstSlots 32) (p .marks) (p .barrier) output
 
-pub panel-started : (p : Panel) (output : List ℕ) → Kept (p .slots) (p .count) → panelAt (p .slots) (startedStage p (p .barrier) output) ≡ recordOf p
+pub panel-started : (p : Panel) (output : List ℕ) → Kept (p .slots) (p .count) → panelAt (p .slots) (begunStage p output) ≡ recordOf p
 panel-started p output kept = ap (λ (ms : List Message). withWaiting (recordOf p) ms) (held-order (p .slots) (p .count) (kept .few))
 
 -- to receive is to take the message and to settle
@@ -75,13 +77,13 @@ length-atOnce p bytes reads = go (ready p (messageIn width bytes))
 
 -- 32 are not waiting, or the message is ready
 pub room : (p : Panel) (bytes output : List ℕ) → firstOf (receiveChecks (recordOf p) bytes output) ≡ 0
-    → (p .count < 32) ⊎ (ready (recordOf p) (messageIn width bytes) ≡ true)
+    → (p .count < 32) ⊎ (ready (asking (p .marks) (p .time)) (messageIn width bytes) ≡ true)
 room p bytes output passed =
-    ⊎-elim (λ (l : length (held (p .slots) (firstSlots (p .count))) < 32). inl (omega (arith, length-firstSlots (p .slots) (p .count)))) (λ r. inr r)
-    (receive-passed (recordOf p) bytes output passed .room)
+    ⊎-elim (λ (l : length (held (p .slots) (firstSlots (p .count))) < 32). inl (omega (arith, length-firstSlots (p .slots) (p .count))))
+    (λ r. inr (ready-asking (recordOf p) (messageIn width bytes) ∙ r)) (receive-passed (recordOf p) bytes output passed .room)
 
 module _ (p : Panel) (bytes output : List ℕ) (kept : Kept (p .slots) (p .count)) (reads : Reads bytes) (slots : List ℕ) (begun after : Stage)
-    (taken : Taken (messageIn width bytes) (p .slots) (startedStage p (p .barrier) output) slots begun) (settles : Settles slots begun after) where
+    (taken : Taken (messageIn width bytes) (p .slots) (begunStage p output) slots begun) (settles : Settles slots begun after) where
   pub received-done : (back : Panel) → firstOf (receiveChecks (recordOf p) bytes output) ≡ 0 → recordOf back ≡ panelAt slots after
       → Promised (recordOf p) (receive bytes output) (receivedResult (record { number = 0; count = after .left .handed; panel = back }) (after .output))
       × GivenBack 0 p back

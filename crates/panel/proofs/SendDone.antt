@@ -25,13 +25,10 @@ use Rattle.rules.specs.Refusals.{sendChecks}
 use Rattle.rules.specs.Results.{Promised, send}
 use Rattle.rules.proofs.Checks.{SendPassed, send-passed, new-readable}
 use Rattle.rules.proofs.LogRecords.{length-logRecord}
-use Rattle.slots.specs.Slots.{Reads, Kept}
+use Rattle.slots.specs.Slots.{Reads, Kept, firstSlots}
 use Rattle.slots.proofs.Kept.{held-order}
-use Rattle.settling.specs.declared.Settling.{Settling}
 use Rattle.settling.specs.Record.{Stage, stage, panelAt, Settles}
-use Rattle.settling.proofs.Stages.{oneMore, oneHanded}
 use Rattle.panel.specs.Record.{recordOf, sentResult, GivenBack}
-use Rattle.panel.specs.Steps.{started}
 use Rattle.panel.specs.declared.Panel.{Panel}
 use Rattle.panel.proofs.Answering.{afterwards, settled-promised}
 
@@ -70,15 +67,17 @@ module _ {p : Panel} {payload : List ℕ} {lifetime : ℕ} {output buffer : List
 
   abbrev pub handedStage : Stage
   handedStage =
-      stage (oneHanded (started (p .own) (p .time) (p .high) (p .count)) new) (raise (p .marks) new) (raise none64 new) (over output 0 (logRecord new))
+      stage (record { own = p .own; time = p .time; high = max (p .high) (new .deadline); waiting = p .count; handed = 1 }) (firstSlots 32)
+      (raise (p .marks) new) (raise none64 new) (over output 0 (logRecord new))
 
-  pub stage-handed : (part : List ℕ) → part ≡ frame width new → (begun : Settling) (high : ℕ) (marks barrier written : List ℕ)
-      → begun ≡ started (p .own) (p .time) (p .high) (p .count) → high ≡ max (p .high) (messageIn width part .deadline)
+  pub stage-handed : (part : List ℕ) → part ≡ frame width new → (high : ℕ) (places marks barrier written : List ℕ)
+      → high ≡ max (p .high) (messageIn width part .deadline) → places ≡ firstSlots 32
       → marks ≡ raise (p .marks) (messageIn width part) → barrier ≡ raise none64 (messageIn width part)
-      → written ≡ over output 0 (logRecord (messageIn width part)) → stage (oneMore begun high) marks barrier written ≡ handedStage
-  stage-handed part is begun high marks barrier written b e em eb eo =
+      → written ≡ over output 0 (logRecord (messageIn width part))
+      → stage (record { own = p .own; time = p .time; high = high; waiting = p .count; handed = 1 }) places marks barrier written ≡ handedStage
+  stage-handed part is high places marks barrier written e ep em eb eo =
       let message : messageIn width part ≡ new = ap (messageIn width) is ∙ frame-message width new (omega arith, omega arith) readable in
-      rw (e, em, eb, eo, message, b)
+      rw (e, ep, em, eb, eo, message)
 
   panel-handed : Kept (p .slots) (p .count) → panelAt (p .slots) handedStage ≡ hand (emptied (recordOf p)) new
   unfolding hand

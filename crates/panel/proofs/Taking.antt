@@ -24,7 +24,6 @@ use Rattle.slots.proofs.Held.{carried-reads}
 use Rattle.slots.proofs.Kept.{listed-order, held-order, slots-put, held-put, kept-put}
 use Rattle.settling.specs.declared.Settling.{Settling}
 use Rattle.settling.specs.Record.{asking, Stage, stage, panelAt, outputPlace}
-use Rattle.settling.proofs.Stages.{oneMore, oneHanded}
 use Rattle.panel.specs.Steps.{taking, handedAtOnce, Taken}
 use Rattle.panel.proofs.MessageChecks.{ready-asking}
 
@@ -46,10 +45,8 @@ module _ (p : Panel) (m : Message) where
 -- ---- room
 
 -- where there is room or it is ready, and it is not ready, there is room
-pub room-unready : (p : Panel) (m : Message) (count : ℕ) → (count < 32) ⊎ (ready p m ≡ true)
-    → ready (asking (p .marks) (p .time)) m ≡ false → count < 32
-room-unready p m count room e =
-    ⊎-elim (λ (lt : count < 32). lt) (λ (t : ready p m ≡ true). absurd (true≢false (sym t ∙ sym (ready-asking p m) ∙ e))) room
+pub room-unready : (p : Panel) (m : Message) (count : ℕ) → (count < 32) ⊎ (ready p m ≡ true) → ready p m ≡ false → count < 32
+room-unready p m count room e = ⊎-elim (λ (lt : count < 32). lt) (λ (t : ready p m ≡ true). absurd (true≢false (sym t ∙ e))) room
 
 onesIn-le : (d n : ℕ) → onesIn d n ≤ d
 unfolding onesIn
@@ -64,23 +61,20 @@ length-reads bs reads =
 
 -- ---- the message of a frame is taken
 
-module _ (s : Settling) (marks barrier slots output frame : List ℕ) (reads : Reads frame) (size : Slots slots) (kept : Kept slots (s .waiting))
-    (order : s .places ≡ firstSlots 32) where
+module _ (s : Settling) (marks barrier slots output frame : List ℕ) (reads : Reads frame) (size : Slots slots) (kept : Kept slots (s .waiting)) where
   abbrev before : Stage
-  before = stage s marks barrier output
+  before = stage s (firstSlots 32) marks barrier output
 
   abbrev m : Message
   m = messageIn width frame
 
-  listed : (bytes : List ℕ) (count : ℕ) → Kept bytes count → Listed bytes count (s .places)
-  listed bytes count k = subst (λ (places : List ℕ). Listed bytes count places) (sym order) (listed-order bytes count k)
-
-  in-order : (bytes : List ℕ) (count : ℕ) → count ≤ 32 → held bytes (take count (s .places)) ≡ held bytes (firstSlots count)
-  in-order bytes count few = ap (λ (places : List ℕ). held bytes (take count places)) order ∙ held-order bytes count few
+  -- handed, one more was, and high is this
+  abbrev oneMore : ℕ → Settling
+  oneMore high = record { own = s .own; time = s .time; high = high; waiting = s .waiting; handed = s .handed + 1 }
 
   -- ready, it is handed
   handed-now : ready (asking marks (s .time)) m ≡ true
-      → Taken m slots before slots (stage (oneHanded s m) (raise marks m) (raise barrier m) (over output (outputPlace s) (logRecord m)))
+      → Taken m slots before slots (stage (oneMore (max (s .high) (m .deadline))) (firstSlots 32) (raise marks m) (raise barrier m) (over output (outputPlace s) (logRecord m)))
   unfolding hand logRecords
   handed-now e =
       let p = panelAt slots before in
@@ -93,20 +87,20 @@ module _ (s : Settling) (marks barrier slots output frame : List ℕ) (reads : R
             ∙ ap (λ (ms : List Message). over output (outputPlace s) (logRecords ms)) (sym it);
         handed = ap (λ (ms : List Message). s .handed + length ms) (sym it);
         one-more = omega arith;
-        listed = listed slots (s .waiting) kept;
+        listed = listed-order slots (s .waiting) kept;
         size = size;
       }
 
   pub taken-handed : ready (asking marks (s .time)) m ≡ true → (high : ℕ) (marksAfter barrierAfter outputAfter : List ℕ)
       → high ≡ max (s .high) (m .deadline) → marksAfter ≡ raise marks m → barrierAfter ≡ raise barrier m
       → outputAfter ≡ over output (outputPlace s) (logRecord m)
-      → Taken m slots before slots (stage (oneMore s high) marksAfter barrierAfter outputAfter)
+      → Taken m slots before slots (stage (oneMore high) (firstSlots 32) marksAfter barrierAfter outputAfter)
   taken-handed ready high marksAfter barrierAfter outputAfter e em eb eo = rw (e, em, eb, eo) (handed-now ready)
 
   -- not ready, it is put behind the others
   module _ (unready : ready (asking marks (s .time)) m ≡ false) (few : s .waiting < 32) where
     abbrev after : Settling
-    after = record { own = s .own; time = s .time; high = s .high; waiting = s .waiting + 1; places = s .places; handed = s .handed }
+    after = record { own = s .own; time = s .time; high = s .high; waiting = s .waiting + 1; handed = s .handed }
 
     abbrev put : List ℕ
     put = over slots (s .waiting * slotLength) (bigEndian 2 (length frame) ++ frame)
@@ -114,14 +108,14 @@ module _ (s : Settling) (marks barrier slots output frame : List ℕ) (reads : R
     kept-after : Kept put (s .waiting + 1)
     kept-after = rw add-one (kept-put slots (s .waiting) frame size kept few (length-reads frame reads) reads)
 
-    waiting-after : held put (take (s .waiting + 1) (s .places)) ≡ held slots (take (s .waiting) (s .places)) ++ (m ∷ [])
+    waiting-after : held put (take (s .waiting + 1) (firstSlots 32)) ≡ held slots (take (s .waiting) (firstSlots 32)) ++ (m ∷ [])
     waiting-after =
-        in-order put (s .waiting + 1) (omega (arith, few))
+        held-order put (s .waiting + 1) (omega (arith, few))
         ∙ ap (λ (n : ℕ). held put (firstSlots n)) (add-one (s .waiting))
         ∙ held-put slots (s .waiting) frame size kept few (length-reads frame reads)
-        ∙ rw (carried-reads frame reads, in-order slots (s .waiting) (kept .few))
+        ∙ rw (carried-reads frame reads, held-order slots (s .waiting) (kept .few))
 
-    put-last : Taken m slots before put (stage after marks barrier output)
+    put-last : Taken m slots before put (stage after (firstSlots 32) marks barrier output)
     unfolding logRecords
     put-last =
         let p = panelAt slots before in
@@ -133,9 +127,9 @@ module _ (s : Settling) (marks barrier slots output frame : List ℕ) (reads : R
               sym (ap (λ (ms : List Message). over output (outputPlace s) (logRecords ms)) none-now ∙ over-nil output (outputPlace s));
           handed = sym (ap (λ (ms : List Message). s .handed + length ms) none-now ∙ add-zero (s .handed));
           one-more = omega arith;
-          listed = listed put (s .waiting + 1) kept-after;
+          listed = listed-order put (s .waiting + 1) kept-after;
           size = slots-put slots (s .waiting) frame size kept few (length-reads frame reads);
         }
 
-    pub taken-waiting : (slotsAfter : List ℕ) → slotsAfter ≡ put → Taken m slots before slotsAfter (stage after marks barrier output)
+    pub taken-waiting : (slotsAfter : List ℕ) → slotsAfter ≡ put → Taken m slots before slotsAfter (stage after (firstSlots 32) marks barrier output)
     taken-waiting slotsAfter e = rw e put-last

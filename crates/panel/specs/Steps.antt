@@ -12,8 +12,7 @@ use Rattle.rules.specs.Sizes.{width, lastDeadline, outputLength, bufferLength}
 use Rattle.rules.specs.Panel.{Panel as Record, ready}
 use Rattle.rules.specs.Handing.{hand, logRecords}
 use Rattle.rules.specs.Settling.{withWaiting}
-use Rattle.slots.specs.Slots.{Slots, Listed, firstSlots}
-use Rattle.settling.specs.declared.Settling.{Settling}
+use Rattle.slots.specs.Slots.{Slots, Listed}
 use Rattle.settling.specs.Record.{Stage, panelAt, outputPlace}
 
 -- ---- the checks of each call on what they ask for (`sendChecks`, `receiveChecks` and `clockChecks` of the rules are these)
@@ -35,10 +34,6 @@ clockChecksOn broken output reading time = (broken, 26) ∷ (ltb output outputLe
 
 -- ---- the functions between
 
--- the record as it begins to settle: all of the first slots are listed, nothing was handed
-abbrev pub started : ℕ → ℕ → ℕ → ℕ → Settling
-started own time high waiting = record { own = own; time = time; high = high; waiting = waiting; places = firstSlots 32; handed = 0 }
-
 -- the record that has taken a message, and what was handed: that message, if it was ready
 abbrev pub taking : Record → Message → Record
 taking p m = cond (ready p m) (hand p m) (withWaiting p (p .waiting ++ (m ∷ [])))
@@ -52,5 +47,5 @@ pub record Taken (m : Message) (slots : List ℕ) (before : Stage) (slots′ : L
   pub output : after .output ≡ over (before .output) (outputPlace (before .left)) (logRecords (handedAtOnce (panelAt slots before) m))
   pub handed : after .left .handed ≡ before .left .handed + length (handedAtOnce (panelAt slots before) m)
   pub one-more : after .left .handed + after .left .waiting ≡ before .left .handed + before .left .waiting + 1
-  pub listed : Listed slots′ (after .left .waiting) (after .left .places)
+  pub listed : Listed slots′ (after .left .waiting) (after .places)
   pub size : Slots slots′

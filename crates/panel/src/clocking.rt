@@ -44,7 +44,7 @@ pub extern "C" fn panel_clock(mut p: Panel, time: u32, output: &mut [u8]) -> Clo
         };
     }
     let kept = alive(&p.slots, p.count, time);
-    let places = kept.slots;
+    let mut places = kept.slots;
     let mut marks = p.marks;
     let mut barrier = p.barrier;
     let begun = Settling {
@@ -52,11 +52,16 @@ pub extern "C" fn panel_clock(mut p: Panel, time: u32, output: &mut [u8]) -> Clo
         time,
         high: p.high,
         waiting: kept.count,
-        places,
         handed: 0,
     };
-    let settled = settle(begun, &mut marks, &mut barrier, &p.slots, output);
-    let places = settled.places;
+    let settled = settle(
+        begun,
+        &mut places,
+        &mut marks,
+        &mut barrier,
+        &p.slots,
+        output,
+    );
     gather(&mut p.slots, &places, settled.waiting);
     p.time = time;
     p.high = settled.high;

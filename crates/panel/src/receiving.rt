@@ -2,7 +2,6 @@
 use super::Panel;
 use super::Received;
 use super::record::broken;
-use super::record::start;
 use frame::frame_check;
 use settling::Settling;
 use settling::hand;
@@ -10,6 +9,7 @@ use settling::ready;
 use settling::settle;
 use slots::deadline;
 use slots::gather;
+use slots::in_order;
 use slots::is_waiting;
 use slots::put_frame;
 use slots::source;
@@ -25,7 +25,7 @@ ghost use Rattle.rules.specs.Panel.{ready as isReady};
 ghost use Rattle.rules.specs.Refusals.{messageChecks};
 ghost use Rattle.rules.specs.Results.{Promised, receive};
 ghost use Rattle.slots.specs.Slots.{Reads, Slots, Kept, firstSlots};
-ghost use Rattle.settling.specs.Record.{stage, panelAt};
+ghost use Rattle.settling.specs.Record.{asking, stage};
 ghost use Rattle.panel.specs.Record.{recordWith, recordOf, receivedResult, GivenBack};
 ghost use Rattle.panel.specs.Steps.{frameChecksOn, Taken};
 
@@ -89,12 +89,12 @@ fn take(
     frame: &[u8],
     output: &mut [u8],
 ) -> Settling
-    requires { ⌜ Reads (now frame) × Slots (now slots) × Kept (now slots) (s .waiting) × (s .places ≡ firstSlots 32) ⌝ }
-    requires { ⌜ (s .waiting < 32) ⊎ (isReady (panelAt (now slots) (stage s (now marks) (now barrier) (now output))) (messageIn 4 (now frame)) ≡ true) ⌝ }
+    requires { ⌜ Reads (now frame) × Slots (now slots) × Kept (now slots) (s .waiting) ⌝ }
+    requires { ⌜ (s .waiting < 32) ⊎ (isReady (asking (now marks) (s .time)) (messageIn 4 (now frame)) ≡ true) ⌝ }
     requires { ⌜ s .handed * 38 + 38 ≤ length (now output) ⌝ }
     ensures { λ r. ⌜ Taken (messageIn 4 (now (frame .entry)))
-        (now (slots .entry)) (stage s (now (marks .entry)) (now (barrier .entry)) (now (output .entry)))
-        (now (slots .exit)) (stage r (now (marks .exit)) (now (barrier .exit)) (now (output .exit))) ⌝ }
+        (now (slots .entry)) (stage s (firstSlots 32) (now (marks .entry)) (now (barrier .entry)) (now (output .entry)))
+        (now (slots .exit)) (stage r (firstSlots 32) (now (marks .exit)) (now (barrier .exit)) (now (output .exit))) ⌝ }
 {
     if ready(frame, marks, s.time) {
         let mut rest = s;
@@ -130,12 +130,25 @@ pub extern "C" fn panel_receive<'a, 'b>(
             panel: p,
         };
     }
+    let mut places = in_order();
     let mut marks = p.marks;
     let mut barrier = p.barrier;
-    let begun = start(p.own, p.time, p.high, p.count);
+    let begun = Settling {
+        own: p.own,
+        time: p.time,
+        high: p.high,
+        waiting: p.count,
+        handed: 0,
+    };
     let taken = take(begun, &mut marks, &mut barrier, &mut p.slots, frame, output);
-    let settled = settle(taken, &mut marks, &mut barrier, &p.slots, output);
-    let places = settled.places;
+    let settled = settle(
+        taken,
+        &mut places,
+        &mut marks,
+        &mut barrier,
+        &p.slots,
+        output,
+    );
     gather(&mut p.slots, &places, settled.waiting);
     p.high = settled.high;
     p.count = settled.waiting;

@@ -1,8 +1,6 @@
-// What the calls have in common: refusal 26, and the record as it begins to settle.
-use settling::Settling;
+// Refusal 26.
 use settling::larger;
 use slots::all_read;
-use slots::in_order;
 ghost use mathlib.Core.Path.{_≡_};
 ghost use Prim.Native.Nat.{_+_};
 ghost use lib.ListN.{length};
@@ -10,7 +8,6 @@ ghost use Rattle.frame.specs.Readable.{eachBelow};
 ghost use Rattle.rules.specs.Refusals.{broken as isBroken};
 ghost use Rattle.slots.specs.Slots.{Slots};
 ghost use Rattle.panel.specs.Record.{recordWith};
-ghost use Rattle.panel.specs.Steps.{started};
 
 // Whether each number is at most the limit. It has no early end, so that the compiler can take many at a time.
 fn each_at_most(numbers: &[u32; 64], limit: u32) -> bool
@@ -51,19 +48,4 @@ pub(crate) fn broken<'a>(
         return true;
     }
     !all_read(slots, count)
-}
-
-// The record as it begins to settle, with what is lent beside it.
-pub(crate) fn start(own: u8, time: u32, high: u32, waiting: usize) -> Settling
-    ensures { λ r. ⌜ r ≡ started own time high waiting ⌝ }
-{
-    let places = in_order();
-    Settling {
-        own,
-        time,
-        high,
-        waiting,
-        places,
-        handed: 0,
-    }
 }

@@ -2,11 +2,12 @@
 use super::Panel;
 use super::Sent;
 use super::record::broken;
-use super::record::start;
 use frame::write;
+use settling::Settling;
 use settling::hand;
 use settling::settle;
 use slots::gather;
+use slots::in_order;
 ghost use mathlib.Core.Path.{_≡_};
 ghost use mathlib.Core.List.{[]};
 ghost use Rattle.frame.specs.Refusal.{firstOf};
@@ -77,14 +78,33 @@ pub extern "C" fn panel_send<'a, 'b, 'c>(
         };
     }
     let entries = p.barrier;
-    let mut barrier = [0u32; 64];
     let length = write(p.own, deadline as u32, entries, payload, buffer);
     let mut marks = p.marks;
-    let mut begun = start(p.own, p.time, p.high, p.count);
-    begun.high = hand(p.high, 0, &mut marks, &mut barrier, &buffer[0..length], output);
-    begun.handed = 1;
-    let settled = settle(begun, &mut marks, &mut barrier, &p.slots, output);
-    let places = settled.places;
+    let mut barrier = [0u32; 64];
+    let high = hand(
+        p.high,
+        0,
+        &mut marks,
+        &mut barrier,
+        &buffer[0..length],
+        output,
+    );
+    let mut places = in_order();
+    let begun = Settling {
+        own: p.own,
+        time: p.time,
+        high,
+        waiting: p.count,
+        handed: 1,
+    };
+    let settled = settle(
+        begun,
+        &mut places,
+        &mut marks,
+        &mut barrier,
+        &p.slots,
+        output,
+    );
     gather(&mut p.slots, &places, settled.waiting);
     p.high = settled.high;
     p.count = settled.waiting;

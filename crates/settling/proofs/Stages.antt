@@ -40,8 +40,8 @@ pub record HandedAt (slots : List ℕ) (place : ℕ) (before after : Stage) : Ty
   pub panel : panelAt slots after ≡ handedFrom (panelAt slots before) place
   pub output : after .output ≡ over (before .output) (outputPlace (before .left)) (logRecord (waitingAt (panelAt slots before) place))
   pub handed : after .left .handed ≡ before .left .handed + 1
-  pub waiting : after .left .waiting + 1 ≡ before .left .waiting
   pub listed : Listed slots (after .left .waiting) (after .places)
+  pub long : length (after .places) ≡ length (before .places)
 
 module _ (slots : List ℕ) (place : ℕ) (s : Settling) (places rest marks barrier output : List ℕ) (m : Message)
     (listed : Listed slots (s .waiting) places) (long : length places ≡ 32)
@@ -69,8 +69,8 @@ module _ (slots : List ℕ) (place : ℕ) (s : Settling) (places rest marks barr
         panel = rw it (simp messages);
         output = rw it refl;
         handed = refl;
-        waiting = one;
         listed = listed-leaves places (s .waiting) place rest (s .waiting - 1) one (λ k h. leaves .moves k (omega arith)) slots listed;
+        long = leaves .long;
       }
 
   pub handed-at : (high : ℕ) (marksAfter barrierAfter outputAfter : List ℕ) → high ≡ max (s .high) (m .deadline) → marksAfter ≡ raise marks m
@@ -92,6 +92,7 @@ module _ (slots : List ℕ) (s : Stage) where
         output = sym (ap (λ (x : Settled). over (s .output) at (logRecords (x .handed))) all ∙ over-nil (s .output) at);
         handed = sym (ap (λ (x : Settled). s .left .handed + length (x .handed)) all ∙ add-zero (s .left .handed));
         listed = listed;
+        long = refl;
       }
 
   settles-on : (place : ℕ) (t u : Stage) → choice (panelAt slots s) (panelAt slots s .waiting) ≡ some place
@@ -118,6 +119,7 @@ module _ (slots : List ℕ) (s : Stage) where
             ∙ ap (λ (x : Settled). over (s .output) at (logRecords (x .handed))) (sym all);
         handed = omega (arith, rest .handed, h .handed, count);
         listed = rest .listed;
+        long = rest .long ∙ h .long;
       }
 
 -- a step as the code takes it, from what `choice` found

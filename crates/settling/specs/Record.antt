@@ -81,3 +81,4 @@ pub record Settles (slots : List ℕ) (before after : Stage) : Type 0 where
   pub output : after .output ≡ over (before .output) (outputPlace (before .left)) (logRecords (settle (panelAt slots before) .handed))
   pub handed : after .left .handed ≡ before .left .handed + length (settle (panelAt slots before) .handed)
   pub listed : Listed slots (after .left .waiting) (after .places)
+  pub long : length (after .places) ≡ length (before .places)

@@ -236,7 +236,14 @@ pub fn settle(
         return s;
     }
     let slot = leave(places, s.waiting, next.place) as usize;
-    let high = hand(s.high, s.handed, marks, barrier, kept_frame(slots, slot), output);
+    let high = hand(
+        s.high,
+        s.handed,
+        marks,
+        barrier,
+        kept_frame(slots, slot),
+        output,
+    );
     let rest = Settling {
         own: s.own,
         time: s.time,

@@ -144,8 +144,10 @@ settle-settle-requires t c κs =
     let b = leave .before .before in
     let s = start t b in (
       omega (arith, s .pre .0, below t b),
-      ((s .pre .1 .0 .0, handed t hand .listed, leave .leave .ensures .1 .long ∙ s .pre .1 .0 .2),
-          omega (arith, s .pre .1 .1, below t b, hand .hand .kept .1 .1 .1 .1 .1 .0)),
+      (
+        (s .pre .1 .0 .0, handed t hand .listed, leave .leave .ensures .1 .long ∙ s .pre .1 .0 .2),
+        omega (arith, s .pre .1 .1, below t b, hand .hand .kept .1 .1 .1 .1 .1 .0),
+      ),
     )
 
 settle-same-length : (t : ℕ) → settle-lts.Need-same-length (calls t) (settle-at t) settle.Post

@@ -41,7 +41,7 @@ passed c = sym (numbered (c .before)) ∙ c .if1 .left
 checked : (c : tie.Else1) → ClockPassed (recordOf (back c .args .t1)) (back c .args .time) (back c .args .output .now)
 checked c = clock-passed (recordOf (back c .args .t1)) (back c .args .time) (back c .args .output .now) (passed c)
 
-long : (c : tie.After-settle) → length (c .settle .result .places) ≡ 32
+long : (c : tie.After-alive) → length (c .alive .result .slots) ≡ 32
 long c = search needs
 
 broken-requires : tie.Need-broken-requires
@@ -59,9 +59,9 @@ alive-requires c κs = (search needs, valid-kept _ (checked (c .before .before .
 
 settle-requires : tie.Need-settle-requires
 settle-requires c κs =
-    let kept = c .before .before .before .before .before .before .before .before .before in
+    let kept = c .before .before .before .before .before .before .before .before .before .before in
     let listed = kept .alive .ensures .listed in
-    ((search needs, listed), omega (arith, listed .few, checked (kept .before .before .before .before) .output-room))
+    ((search needs, listed, long kept), omega (arith, listed .few, checked (kept .before .before .before .before) .output-room))
 
 gather-requires : tie.Need-gather-requires
 gather-requires c κs = search needs
@@ -71,13 +71,15 @@ same-length c = search needs
 
 returns-2 : tie.Need-returns-2
 returns-2 c =
-    let kept = c .before .before .before .before .before .before .before .before .before .before .before .before .before .before .before .before in
+    let settled = c .before .before .before .before .before in
+    let kept = settled .before .before .before .before .before .before .before .before .before .before .before in
     let past = kept .before .before .before .before in
     let a = back past .args in
-    let settled = c .before .before .before .before .before .before .settle in
+    let settle = settled .settle in
     clocked-done (a .t1) (a .time) (a .output .now) _ (kept .alive .ensures)
-    (stage (settled .result) (settled .last .1 .0) (settled .last .1 .1 .0) (settled .last .1 .1 .1 .1 .0)) _ (passed past) (settled .ensures)
-    (gathered-record _ _ (settled .result) _ _ _ _ (settled .ensures) (long (c .before .before .before .before .before .before)) (c .gather .ensures) _ _ refl refl)
+    (stage (settle .result) (settle .last .1 .0) (settle .last .1 .1 .0) (settle .last .1 .1 .1 .0) (settle .last .1 .1 .1 .1 .1 .0)) _ (passed past)
+    (settle .ensures)
+    (gathered-record _ _ (settle .result) _ _ _ _ _ (settle .ensures) (long kept) (c .gather .ensures) _ _ refl refl)
 
 pub panel-clock-spec : {M : Type 1} → statement M
 panel-clock-spec =

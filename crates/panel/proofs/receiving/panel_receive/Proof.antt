@@ -1,7 +1,7 @@
 -- `panel::receiving::panel_receive` meets its contract: a refusal is the first check that applies, and the rest is document 01's receive. Assumes nothing.
 use mathlib.Core.Path.{_≡_, refl, sym, ap, _∙_}
 use mathlib.Core.Bool.{Bool}
-use mathlib.Core.Logic.{inl, inr, ⊎-elim}
+use mathlib.Core.Logic.{⊎-elim}
 use native.Mathlib.Omega.{arith}
 use borrow.Author.Needs.{needs}
 use lib.ListN.{length}
@@ -11,12 +11,13 @@ use Rattle.rules.specs.Panel.{met, lapsed, ready}
 use Rattle.rules.specs.Refusals.{broken, messageChecks, receiveChecks}
 use Rattle.rules.specs.Results.{refused, receive}
 use Rattle.rules.proofs.Checks.{ReceivePassed, receive-passed}
+use Rattle.slots.proofs.Held.{length-upFrom}
 use Rattle.settling.specs.Record.{stage}
 use Rattle.panel.specs.Record.{recordOf}
 use Rattle.panel.specs.Steps.{frameChecksOn}
 use Rattle.panel.proofs.Checking.{frame-refused, frame-through, through-reads, through-valid}
 use Rattle.panel.proofs.Answering.{refused-promised, valid-kept, gathered-record}
-use Rattle.panel.proofs.ReceiveDone.{panel-started, taken-own, taken-time, room, received-done}
+use Rattle.panel.proofs.ReceiveDone.{taken-own, taken-time, room, received-done}
 use Rattle.panel.proofs.receiving.panel_receive.Statement.{statement}
 use Rattle.panel.proofs.receiving.panel_receive.Tie as tie
 
@@ -53,7 +54,7 @@ checked : (c : tie.Else2) → let a = back c .args in
     ReceivePassed (recordOf (a .t1)) (a .frame .now) (a .output .now) (messageIn 4 (a .frame .now))
 checked c = let a = back c .args in receive-passed (recordOf (a .t1)) (a .frame .now) (a .output .now) (passed c)
 
-long : (c : tie.After-settle) → length (c .settle .result .places) ≡ 32
+long : (c : tie.After-in-order) → length (c .in-order .result) ≡ 32
 long c = search needs
 
 broken-requires : tie.Need-broken-requires
@@ -76,32 +77,27 @@ returns : tie.Need-returns
 unfolding refused
 returns c = (refused-promised _ (receive _ _) _ (numbered (c .before)) (c .if2 .taken), λ _. refl)
 
-start-requires : tie.Need-start-requires
-start-requires c κs = search needs
+in-order-requires : tie.Need-in-order-requires
+in-order-requires c κs = search needs
 
 take-requires : tie.Need-take-requires
 take-requires c κs =
-    let begun = c .before .before .before .before in
-    let past = begun .before .before .before in
-    let a = back past .args in
-    let whole = valid-kept (a .t1) (checked past .valid) in
-    rw (begun .start .ensures) (
-      (checked past .read, search needs, whole, refl),
-      (
-        ⊎-elim (λ few. inl few) (λ r. inr (rw (panel-started (a .t1) _ whole) r)) (room (a .t1) _ _ (passed past)),
-        omega (arith, checked past .output-room),
-      ),
+    let past = c .before .before .before .before .before .before .before in
+    let a = back past .args in (
+      (checked past .read, search needs, valid-kept (a .t1) (checked past .valid)),
+      (room (a .t1) _ _ (passed past), omega (arith, checked past .output-room)),
     )
 
 settle-requires : tie.Need-settle-requires
 settle-requires c κs =
-    let take = c .before .before .before .before .before .before .before .before in
-    let begun = take .before .before .before .before .before in
-    let past = begun .before .before .before in
+    let take = c .before .before .before .before .before .before .before .before .before in
+    let order = take .before .before .before .before .before .before .before in
+    let past = order .before in
     let taken = take .take .ensures in
-    let more = rw (begun .start .ensures) at (taken .one-more) in
-    let few = valid-kept _ (checked past .valid) .few in
-    ((taken .size, taken .listed), omega (arith, more, few, checked past .output-room, take .take .kept .1 .1 .1 .1 .1 .0))
+    let few = valid-kept _ (checked past .valid) .few in (
+      (taken .size, rw (order .in-order .ensures) (taken .listed), long order),
+      omega (arith, taken .one-more, few, checked past .output-room, take .take .kept .1 .1 .1 .1 .1 .0),
+    )
 
 gather-requires : tie.Need-gather-requires
 gather-requires c κs = search needs
@@ -111,15 +107,18 @@ same-length c = search needs
 
 returns-2 : tie.Need-returns-2
 returns-2 c =
-    let settled = c .before .before .before .before .before .before .settle in
-    let take = c .before .before .before .before .before .before .before .before .before .before .before .before .before .before .before in
-    let begun = take .before .before .before .before .before in
-    let past = begun .before .before .before in
+    let settled = c .before .before .before .before .before in
+    let take = settled .before .before .before .before .before .before .before .before .before .before in
+    let order = take .before .before .before .before .before .before .before in
+    let past = order .before in
     let a = back past .args in
-    let taken = rw (begun .start .ensures) at (take .take .ensures) in
+    let taken = take .take .ensures in
+    let settle = settled .settle in
+    let settles = rw (order .in-order .ensures) at (settle .ensures) in
     received-done (a .t1) (a .frame .now) (a .output .now) (valid-kept (a .t1) (checked past .valid)) (checked past .read) _ _
-    (stage (settled .result) (settled .last .1 .0) (settled .last .1 .1 .0) (settled .last .1 .1 .1 .1 .0)) taken (settled .ensures) _ (passed past)
-    (gathered-record _ _ (settled .result) _ _ _ _ (settled .ensures) (long (c .before .before .before .before .before .before)) (c .gather .ensures) _ _ (taken-own taken) (taken-time taken))
+    (stage (settle .result) (settle .last .1 .0) (settle .last .1 .1 .0) (settle .last .1 .1 .1 .0) (settle .last .1 .1 .1 .1 .1 .0)) taken settles _
+    (passed past)
+    (gathered-record _ _ (settle .result) _ _ _ _ _ settles (length-upFrom 0 32) (c .gather .ensures) _ _ (taken-own taken) (taken-time taken))
 
 pub panel-receive-spec : {M : Type 1} → statement M
 panel-receive-spec =
@@ -129,7 +128,7 @@ panel-receive-spec =
     frame-number-requires
     message-number-requires
     returns
-    start-requires
+    in-order-requires
     take-requires
     settle-requires
     gather-requires

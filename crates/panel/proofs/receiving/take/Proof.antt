@@ -37,7 +37,7 @@ returns c =
     let hand = c .before .before .before .hand in
     let test = c .before .before .before .before .before .before .before in
     let s = start (test .before) in
-    taken-handed _ _ _ _ _ _ (s .pre .0 .0) (s .pre .0 .1) (s .pre .0 .2) (s .pre .0 .3)
+    taken-handed _ _ _ _ _ _ (s .pre .0 .0) (s .pre .0 .1) (s .pre .0 .2)
     (is-ready (test .before) ∙ test .if1 .taken) (hand .result) _ _ _
     (hand .ensures .0) (hand .ensures .1) (hand .ensures .2) (hand .ensures .3)
 
@@ -51,7 +51,7 @@ returns-2 : tie.Need-returns-2
 returns-2 c =
     let test = c .before .before .before in
     let s = start (test .before) in
-    taken-waiting _ _ _ _ _ _ (s .pre .0 .0) (s .pre .0 .1) (s .pre .0 .2) (s .pre .0 .3)
+    taken-waiting _ _ _ _ _ _ (s .pre .0 .0) (s .pre .0 .1) (s .pre .0 .2)
     (is-ready (test .before) ∙ test .if1 .left) (few test) _ (c .before .put-frame .ensures)
 
 pub take-spec : {M : Type 1} → statement M

@@ -1,16 +1,15 @@
 -- `panel::record::each_at_most` meets its contract: the numbers from i on are at most the limit where the largest of them is. Assumes nothing.
 use mathlib.Core.Path.{_≡_, sym, ap, _∙_}
-use mathlib.Core.Bool.{true}
 use Prim.Native.Nat.{ℕ, _+_, _-_, _≤_}
 use borrow.Author.Needs.{needs}
 use borrow.Author.Tests.{lt-ltb}
 use native.Mathlib.Omega.{arith}
 use denote.Ref.{now}
-use lib.ListN.{getD, drop}
+use lib.ListN.{drop}
 use lib.Dec.{ltb}
 use Rattle.frame.specs.Readable.{eachBelow}
 use Rattle.frame.proofs.EachNumber.{eachBelow-none}
-use Rattle.panel.proofs.Largest.{eachBelow-larger}
+use Rattle.panel.proofs.Largest.{leb-ltb, eachBelow-larger}
 use Rattle.panel.proofs.record.each_at_most.Statement.{statement}
 use Rattle.panel.proofs.record.each_at_most.Tie as tie
 
@@ -41,10 +40,21 @@ loop-less : tie.Need-loop-less Inv-loop μ-loop
 loop-less c = search needs
 
 loop-again : tie.Need-loop-again Inv-loop μ-loop
-loop-again c = ?
+loop-again c =
+    let l = c .before .before .before .loop in
+    let s = c .before .before .before .before in
+    let a = s .args in (
+      omega arith,
+      eachBelow-larger (a .limit + 1) (now (a .numbers)) (l .i) (l .largest) (omega arith) (omega (arith, s .pre)) (l .inv .1)
+          ∙ ap (λ (n : ℕ). ltb n (a .limit + 1)) (sym (c .larger .ensures)),
+    )
 
 returns : tie.Need-returns Inv-loop μ-loop
-returns c = ?
+returns c =
+    let l = c .before .loop in
+    let a = c .before .before .args in
+    let z : l .i ≡ 0 = omega arith in
+    leb-ltb (l .largest) (a .limit) ∙ sym (l .inv .1) ∙ ap (λ (n : ℕ). eachBelow (a .limit + 1) (drop n (now (a .numbers)))) z
 
 pub each-at-most-spec : {M : Type 1} → statement M
 each-at-most-spec =

@@ -16,6 +16,7 @@ use Rattle.rules.specs.Panel.{none64}
 use Rattle.rules.specs.Calls.{newMessage, sendDeadline}
 use Rattle.rules.specs.Refusals.{broken, sendChecks}
 use Rattle.rules.specs.Results.{refused, send}
+use Rattle.slots.proofs.Held.{length-upFrom}
 use Rattle.slots.proofs.Kept.{listed-order}
 use Rattle.settling.specs.Record.{stage}
 use Rattle.panel.specs.Record.{recordOf}
@@ -43,7 +44,7 @@ payload-bytes c = λ i. omega (arith, c .shared-slice-known .given i)
 panels : (c : tie.Start) → length (c .args .t1 .barrier) ≡ 64
 panels c = search needs
 
-long : (c : tie.After-settle) → length (c .settle .result .places) ≡ 32
+long : (c : tie.After-in-order) → length (c .in-order .result) ≡ 32
 long c = search needs
 
 -- the deadline that the message would have
@@ -115,9 +116,6 @@ cast-write c = omega (arith, due (c .before .before .before), checked (passed (c
 write-requires : tie.Need-write-requires
 write-requires c κs = search needs
 
-start-requires : tie.Need-start-requires
-start-requires c κs = search needs
-
 sub-hand : tie.Need-sub-hand
 sub-hand c = search needs
 
@@ -126,25 +124,25 @@ part-hand-start c = search needs
 
 part-hand-end : tie.Need-part-hand-end
 part-hand-end c =
-    let write = c .before .before .before .before .before .before .before in
+    let write = c .before .before .before .before .before .before in
     omega (arith, wrote write .0, frame-fits (passed (past write)), write .write .kept .1 .1 .1 .1 .0)
 
 hand-requires : tie.Need-hand-requires
 hand-requires c κs =
-    let write = c .before .before .before .before .before .before .before .before .before in (
-      rw (part write) (frame-reads (passed (past write))),
-      omega (arith, checked (passed (past write)) .output-room),
-    )
+    let write = c .before .before .before .before .before .before .before .before in
+    (rw (part write) (frame-reads (passed (past write))), omega (arith, checked (passed (past write)) .output-room))
+
+in-order-requires : tie.Need-in-order-requires
+in-order-requires c κs = search needs
 
 settle-requires : tie.Need-settle-requires
 settle-requires c κs =
-    let hand = c .before .before .before .before .before .before .before .before in
-    let begun = hand .before .before .before .before .before .before in
-    let P = checked (passed (past (begun .before .before .before .before))) in
-    let whole = valid-kept _ (P .valid) in
-    rw (begun .start .ensures) (
-      (search needs, listed-order _ _ whole),
-      omega (arith, whole .few, P .output-room, hand .hand .kept .1 .1 .1 .1 .0),
+    let order = c .before .before .before .before .before .before .before in
+    let hand = order .before .before .before in
+    let P = checked (passed (past (hand .before .before .before .before .before .before .before .before .before))) in
+    let whole = valid-kept _ (P .valid) in (
+      (search needs, rw (order .in-order .ensures) (listed-order _ _ whole), long order),
+      omega (arith, whole .few, P .output-room, hand .hand .kept .1 .1 .1 .1 .1 .0),
     )
 
 gather-requires : tie.Need-gather-requires
@@ -154,25 +152,25 @@ same-length : tie.Need-same-length
 same-length c = search needs
 
 same-length-2 : tie.Need-same-length-2
-same-length-2 c =
-    let hand = c .before .before .before .before .before .before .before .before .before .before .before .before .before .before .before in
-    hand .before .before .before .before .before .before .before .before .before .before .write .kept .1 .1 .1 .1 .0
+same-length-2 c = search needs
 
 returns-2 : tie.Need-returns-2
 unfolding none64
 returns-2 c =
-    let settled = c .before .before .before .before .before .before .settle in
-    let hand = c .before .before .before .before .before .before .before .before .before .before .before .before .before .before .before in
-    let begun = hand .before .before .before .before .before .before .start in
-    let write = hand .before .before .before .before .before .before .before .before .before .before in
+    let settled = c .before .before .before .before .before in
+    let order = settled .before .before .before .before .before .before .before .before in
+    let hand = order .before .before .before in
+    let write = hand .before .before .before .before .before .before .before .before .before in
     let P = passed (past write) in
     let handed = hand .hand in
-    let stage-is = stage-handed P _ (part write) (begun .result) (handed .result) (handed .last .1 .0) (handed .last .1 .1 .0) (handed .last .1 .1 .1 .1 .0)
-    (begun .ensures) (handed .ensures .0) (handed .ensures .1) (handed .ensures .2) (handed .ensures .3) in
-    let settles = rw stage-is at (settled .ensures) in
+    let settle = settled .settle in
+    let stage-is = stage-handed P _ (part write) (handed .result) (order .in-order .result) (handed .last .1 .1 .0) (handed .last .1 .1 .1 .0)
+    (handed .last .1 .1 .1 .1 .1 .0)
+    (handed .ensures .0) (order .in-order .ensures) (handed .ensures .1) (handed .ensures .2) (handed .ensures .3) in
+    let settles = rw stage-is at (settle .ensures) in
     sent-done P (valid-kept _ (checked P .valid))
-    (stage (settled .result) (settled .last .1 .0) (settled .last .1 .1 .0) (settled .last .1 .1 .1 .1 .0)) _ settles
-    (gathered-record _ _ (settled .result) _ _ _ _ settles (long (c .before .before .before .before .before .before)) (c .gather .ensures) _ _ refl refl)
+    (stage (settle .result) (settle .last .1 .0) (settle .last .1 .1 .0) (settle .last .1 .1 .1 .0) (settle .last .1 .1 .1 .1 .1 .0)) _ settles
+    (gathered-record _ _ (settle .result) _ _ _ _ _ settles (length-upFrom 0 32) (c .gather .ensures) _ _ refl refl)
     _ _ (wrote write .0) (wrote write .1)
 
 pub panel-send-spec : {M : Type 1} → statement M
@@ -185,11 +183,11 @@ panel-send-spec =
     returns
     cast-write
     write-requires
-    start-requires
     sub-hand
     part-hand-start
     part-hand-end
     hand-requires
+    in-order-requires
     settle-requires
     gather-requires
     same-length

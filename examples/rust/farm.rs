@@ -1,0 +1,141 @@
+//! The example of examples/farm.c in Rust: the same story, and the same text.
+#![forbid(unsafe_code)]
+
+use panel::{frame_check, Frame, Log, LogRecord, Panel, Refusal};
+use std::process::ExitCode;
+
+/// A panel, and its log so far.
+struct Member {
+    panel: Panel,
+    log: Vec<LogRecord>,
+}
+
+/// A frame on its way from panel to panel, and the text in it, for printing.
+struct Parcel {
+    frame: Frame,
+    text: &'static str,
+}
+
+impl Member {
+    /// A panel comes to life.
+    fn start(own: u8, time: u32) -> Result<Member, Refusal> {
+        let mut member = Member {
+            panel: Panel::fresh(own)?,
+            log: Vec::new(),
+        };
+        member.set_clock(time)?;
+        Ok(member)
+    }
+
+    /// Puts the log records of a call at the end of the log.
+    fn keep(&mut self, log: &Log) {
+        self.log.extend(log.records());
+    }
+
+    /// The clock of the panel shows a time.
+    fn set_clock(&mut self, time: u32) -> Result<(), Refusal> {
+        let waiting = self.panel.waiting();
+        let log = self.panel.clock(time)?;
+        self.keep(&log);
+        println!(
+            "panel {} sets its time to {time}: {} handed, {} dropped",
+            self.panel.own(),
+            log.len(),
+            waiting - log.len() - self.panel.waiting()
+        );
+        Ok(())
+    }
+
+    /// Sends a text, with the lifetime that 0 stands for.
+    fn send(&mut self, text: &'static str) -> Result<Parcel, Refusal> {
+        let (frame, log) = self.panel.send(text.as_bytes(), 0)?;
+        self.keep(&log);
+        // the first log record of a send is that of the message sent
+        if let Some(record) = log.records().next() {
+            let deadline = record.deadline();
+            println!(
+                "panel {} sends \"{text}\" with deadline {deadline}",
+                self.panel.own()
+            );
+        }
+        Ok(Parcel { frame, text })
+    }
+
+    /// A frame comes in. Here a refusal is no mistake: copies and late frames are usual.
+    fn receive(&mut self, parcel: &Parcel) {
+        print!("panel {} receives \"{}\": ", self.panel.own(), parcel.text);
+        match self.panel.receive(&parcel.frame) {
+            Ok(log) => {
+                self.keep(&log);
+                println!("{} handed, {} waiting", log.len(), self.panel.waiting());
+            }
+            Err(refusal) => println!("refused with {}", refusal.number()),
+        }
+    }
+
+    /// Source, deadline and text of each log record.
+    fn print_log(&self) {
+        println!("\nlog of panel {}", self.panel.own());
+        for record in &self.log {
+            let text = String::from_utf8_lossy(record.payload());
+            println!("  {} {} {text}", record.source(), record.deadline());
+        }
+    }
+}
+
+/// The radio looks at a frame that was damaged on its way, here in the first byte of its mark.
+fn check_damaged(parcel: &Parcel) {
+    let mut bytes = parcel.frame.to_vec();
+    bytes[0] ^= 1;
+    let number = frame_check(&bytes).map_or_else(Refusal::number, |()| 0);
+    let text = parcel.text;
+    println!("a damaged copy of \"{text}\": the frame check answers {number}");
+}
+
+fn story() -> Result<(), Refusal> {
+    // no common clock
+    let mut three = Member::start(3, 100)?;
+    let mut five = Member::start(5, 90)?;
+    let mut nine = Member::start(9, 110)?;
+
+    // each message has the one before it as its cause
+    let hold = three.send("hold batch 6")?;
+    five.receive(&hold);
+    let moisture = five.send("moisture 19")?;
+    three.receive(&moisture);
+    three.set_clock(200)?;
+    let lifted = three.send("hold lifted")?;
+
+    // panel 9 gets them in the wrong order, and the first once more by another route
+    nine.receive(&lifted);
+    nine.receive(&moisture);
+    check_damaged(&hold);
+    nine.receive(&hold);
+    nine.receive(&hold);
+
+    // two that lapse: one while it waits for the other, which then comes too late
+    let fan_on = three.send("fan 2 on")?;
+    let fan_off = three.send("fan 2 off")?;
+    nine.receive(&fan_off);
+    nine.set_clock(1500)?;
+    nine.receive(&fan_on);
+
+    three.print_log();
+    five.print_log();
+    nine.print_log();
+    Ok(())
+}
+
+fn main() -> ExitCode {
+    match story() {
+        Ok(()) => ExitCode::SUCCESS,
+        // a call was refused that is not refused in this story
+        Err(refusal) => {
+            eprintln!(
+                "farm: a call was refused with {}: {refusal}",
+                refusal.number()
+            );
+            ExitCode::FAILURE
+        }
+    }
+}

@@ -1,0 +1,914 @@
+/*
+ * The calls as a C program sees them: bench cases 1, 2 and 4 to 11 of document 01, every refusal
+ * and the order of refusals, and what a call leaves as it was. Frames and log records are written
+ * in hexadecimal, from document 01 by hand. The last line counts the checks. tests/run.sh builds
+ * and runs it.
+ */
+#include "panel.h"
+
+#include <stdbool.h>
+#include <stdio.h>
+#include <stdlib.h>
+#include <string.h>
+
+/* ---- Checks ---- */
+
+static unsigned long checks, failed;
+static const char *part; /* what is tested at the moment */
+static bool seen[256];   /* which numbers were answered */
+
+/* Counts a check. Of one that fails it prints place and name; the caller prints the difference. */
+static bool fails(bool holds, int line, const char *what)
+{
+    checks++;
+    if (holds)
+        return false;
+    failed++;
+    printf("%s:%d: %s: %s", __FILE__, line, part, what);
+    return true;
+}
+
+static void same_number(int line, const char *what, uint64_t given, uint64_t expected)
+{
+    if (fails(given == expected, line, what))
+        printf(" is %llu, expected %llu\n", (unsigned long long)given,
+               (unsigned long long)expected);
+}
+
+/* The number of an answer. */
+static void same_answer(int line, uint8_t given, uint8_t expected)
+{
+    seen[given] = true;
+    same_number(line, "number", given, expected);
+}
+
+/* `start` is the place that counts as byte 0 in what is printed. */
+static void same_bytes(int line, const char *what, const uint8_t *given, const uint8_t *expected,
+                       size_t length, size_t start)
+{
+    size_t i = 0;
+    while (i < length && given[i] == expected[i])
+        i++;
+    if (fails(i == length, line, what))
+        printf(": byte %ld is %02x, expected %02x\n", (long)i - (long)start, given[i], expected[i]);
+}
+
+/* Marks or barrier entries. */
+static void same_numbers(int line, const char *what, const uint32_t *given,
+                         const uint32_t *expected)
+{
+    size_t s = 0;
+    while (s < PANEL_PANELS && given[s] == expected[s])
+        s++;
+    if (fails(s == PANEL_PANELS, line, what))
+        printf(" of panel %zu is %u, expected %u\n", s, given[s], expected[s]);
+}
+
+/* All that is part of the record; places behind the waiting messages are not. */
+static void same_record(int line, const Panel *given, const Panel *expected)
+{
+    same_number(line, "own number", given->own, expected->own);
+    same_number(line, "time", given->time, expected->time);
+    same_number(line, "high", given->high, expected->high);
+    same_numbers(line, "mark", given->marks, expected->marks);
+    same_numbers(line, "barrier entry", given->barrier, expected->barrier);
+    same_number(line, "number of waiting messages", given->count, expected->count);
+    for (size_t i = 0; i < expected->count && i < PANEL_WAITING_MAX; i++) {
+        const uint8_t *slot = expected->slots + i * PANEL_SLOT_BYTES;
+        size_t length = (size_t)slot[0] << 8 | slot[1];
+        if (length <= PANEL_FRAME_MAX)
+            same_bytes(line, "slot of a waiting message", given->slots + i * PANEL_SLOT_BYTES, slot,
+                       2 + length, 0);
+    }
+}
+
+/* ---- A call and what it is to give ---- */
+
+typedef enum { SEND, RECEIVE, CLOCK } Call;
+
+/* A deadline of a panel. */
+typedef struct {
+    uint8_t panel;
+    uint32_t deadline;
+} Due;
+
+/* A record, but for its own number. */
+typedef struct {
+    uint32_t time;
+    uint32_t high;
+    Due marks[PANEL_PANELS];                /* up to the first deadline of 0 */
+    Due barrier[PANEL_PANELS];              /* up to the first deadline of 0 */
+    const char *waiting[PANEL_WAITING_MAX]; /* frames, up to the first null */
+} Record;
+
+/* A call at one of the panels. Bytes are in hexadecimal, with blanks where they help to read. */
+typedef struct {
+    int line;
+    Call call;
+    uint8_t at;                             /* the own number of the panel */
+    const char *bytes;                      /* the payload or the frame that it is given */
+    uint32_t value;                         /* the lifetime or the time */
+    bool broken;                            /* whether it is given a record with 33 waiting */
+    int output_more;                        /* bytes of the output beyond the least */
+    int buffer_more;                        /* bytes of the frame buffer beyond the least */
+    uint8_t number;                         /* what it is to answer */
+    const char *log[PANEL_WAITING_MAX + 1]; /* log records without zeros after the payload's end */
+    const char *frame;                      /* the frame that a send is to write */
+    Record record;                          /* the record that it is to give, unless refused */
+} Step;
+
+static Panel panels[PANEL_PANELS];
+
+/* What send, receive and clock answer; only a send has a length. */
+typedef struct {
+    uint8_t number;
+    size_t count;
+    size_t length;
+    Panel panel;
+} Answer;
+
+static uint8_t digit(char c)
+{
+    return (uint8_t)(c <= '9' ? c - '0' : c - 'a' + 10);
+}
+
+/* Puts the bytes that a text in hexadecimal stands for, and gives how many they are. */
+static size_t put_bytes(uint8_t *bytes, const char *text)
+{
+    size_t length = 0;
+    for (; *text != '\0'; text++) {
+        if (*text == ' ')
+            continue;
+        bytes[length++] = (uint8_t)(digit(text[0]) << 4 | digit(text[1]));
+        text++;
+    }
+    return length;
+}
+
+/* Puts a frame behind the waiting ones. */
+static void put_waiting(Panel *p, const char *frame)
+{
+    uint8_t *slot = p->slots + p->count * PANEL_SLOT_BYTES;
+    size_t length = put_bytes(slot + 2, frame);
+    slot[0] = (uint8_t)(length >> 8);
+    slot[1] = (uint8_t)length;
+    p->count++;
+}
+
+static Panel panel_of(uint8_t own, const Record *record)
+{
+    Panel p;
+    memset(&p, 0, sizeof p);
+    p.own = own;
+    p.time = record->time;
+    p.high = record->high;
+    for (size_t i = 0; i < PANEL_PANELS && record->marks[i].deadline != 0; i++)
+        p.marks[record->marks[i].panel] = record->marks[i].deadline;
+    for (size_t i = 0; i < PANEL_PANELS && record->barrier[i].deadline != 0; i++)
+        p.barrier[record->barrier[i].panel] = record->barrier[i].deadline;
+    for (size_t i = 0; i < PANEL_WAITING_MAX && record->waiting[i] != NULL; i++)
+        put_waiting(&p, record->waiting[i]);
+    return p;
+}
+
+/* ---- Making a call ---- */
+
+enum { MARGIN = 64, MORE_MAX = 100, BYTES_MAX = 400 };
+
+/* What is lent starts behind the margin. All bytes have a content that shows their place. */
+static uint8_t output[MARGIN + PANEL_OUTPUT_MIN + MORE_MAX + MARGIN];
+static uint8_t buffer[MARGIN + PANEL_FRAME_MAX + MORE_MAX + MARGIN];
+
+static void paint(uint8_t *bytes, size_t length)
+{
+    for (size_t i = 0; i < length; i++)
+        bytes[i] = (uint8_t)(i * 7 + 131);
+}
+
+/* Makes the call of a step on a record, with its bytes. */
+static Answer make(const Step *s, const Panel *p, const uint8_t *bytes, size_t length)
+{
+    size_t output_length = (size_t)(PANEL_OUTPUT_MIN + s->output_more);
+    size_t buffer_length = (size_t)(PANEL_FRAME_MAX + s->buffer_more);
+
+    paint(output, sizeof output);
+    paint(buffer, sizeof buffer);
+    if (s->call == SEND) {
+        PanelSent sent = panel_send(*p, bytes, length, (uint16_t)s->value, output + MARGIN,
+                                    output_length, buffer + MARGIN, buffer_length);
+        return (Answer){sent.number, sent.count, sent.length, sent.panel};
+    }
+    if (s->call == RECEIVE) {
+        PanelReceived received = panel_receive(*p, bytes, length, output + MARGIN, output_length);
+        return (Answer){received.number, received.count, 0, received.panel};
+    }
+    PanelClocked clocked = panel_clock(*p, s->value, output + MARGIN, output_length);
+    return (Answer){clocked.number, clocked.count, 0, clocked.panel};
+}
+
+/* Every byte of the output: the log records, and the old content before and behind them. */
+static size_t check_output(const Step *s)
+{
+    uint8_t expected[sizeof output];
+    size_t count = 0;
+
+    paint(expected, sizeof expected);
+    for (; count <= PANEL_WAITING_MAX && s->log[count] != NULL; count++) {
+        uint8_t *record = expected + MARGIN + count * PANEL_LOG_RECORD;
+        memset(record, 0, PANEL_LOG_RECORD);
+        put_bytes(record, s->log[count]);
+    }
+    same_bytes(s->line, "output", output, expected, sizeof expected, MARGIN);
+    return count;
+}
+
+/* Every byte of the frame buffer: the frame, and the old content before and behind it. */
+static size_t check_buffer(const Step *s)
+{
+    uint8_t expected[sizeof buffer];
+    size_t length = 0;
+
+    paint(expected, sizeof expected);
+    if (s->frame != NULL)
+        length = put_bytes(expected + MARGIN, s->frame);
+    same_bytes(s->line, "frame buffer", buffer, expected, sizeof expected, MARGIN);
+    return length;
+}
+
+/* After a refusal the very record comes back: the bytes that are no part of it too. */
+static void check_record(const Step *s, const Panel *given_back, const Panel *given)
+{
+    if (s->number == PANEL_ACCEPTED) {
+        Panel expected = panel_of(s->at, &s->record);
+        same_record(s->line, given_back, &expected);
+        return;
+    }
+    same_record(s->line, given_back, given);
+    same_bytes(s->line, "slots", given_back->slots, given->slots, PANEL_SLOTS_BYTES, 0);
+}
+
+/* Makes the call of a step on a record, checks all that it gives, and gives the record back. */
+static Panel call(const Step *s, const Panel *given)
+{
+    uint8_t expected[BYTES_MAX];
+    size_t length = s->bytes != NULL ? put_bytes(expected, s->bytes) : 0;
+    uint8_t *block = malloc(1 + length); /* ends with the bytes: valgrind sees a read behind them */
+
+    if (block == NULL)
+        abort();
+    memcpy(block + 1, expected, length);
+    Answer answer = make(s, given, block + 1, length);
+    same_answer(s->line, answer.number, s->number);
+    same_number(s->line, "count of log records", answer.count, check_output(s));
+    same_number(s->line, "length of the frame", answer.length, check_buffer(s));
+    same_bytes(s->line, "bytes that the call was given", block + 1, expected, length, 0);
+    check_record(s, &answer.panel, given);
+    free(block);
+    return answer.panel;
+}
+
+/* A step at one of the panels; its record moves on, unless a broken one was given instead. */
+static void step(const Step *s)
+{
+    Panel given = panels[s->at];
+    if (s->broken)
+        given.count = PANEL_WAITING_MAX + 1;
+    Panel given_back = call(s, &given);
+    if (!s->broken)
+        panels[s->at] = given_back;
+}
+
+/* Starts a part of the tests: 64 fresh panels, with bytes behind their lists that are not 0. */
+static void start(const char *name)
+{
+    part = name;
+    for (size_t own = 0; own < PANEL_PANELS; own++) {
+        panels[own] = panel_fresh((uint8_t)own).panel;
+        paint(panels[own].slots, PANEL_SLOTS_BYTES);
+    }
+}
+
+static void run(const char *name, const Step *steps, size_t count)
+{
+    start(name);
+    for (size_t i = 0; i < count; i++)
+        step(&steps[i]);
+}
+
+#define RUN(name, steps) run(name, steps, sizeof steps / sizeof steps[0])
+
+/* ---- Messages ---- */
+
+/* mark and version, source, deadline, mask, entries, payload length and payload */
+#define FROM_1_DUE_100 "445259 0001 01 00000064 0000000000000000 00"
+#define FROM_1_DUE_700 "445259 0001 01 000002bc 0000000000000000 00"
+#define FROM_1_DUE_1100 "445259 0001 01 0000044c 0000000000000000 00"
+#define FROM_5_DUE_200_AFTER_1 "445259 0001 05 000000c8 0000000000000002 00000064 00"
+#define FROM_9_DUE_200_AFTER_1 "445259 0001 09 000000c8 0000000000000002 00000064 00"
+#define FROM_2_DUE_300_AFTER_1 "445259 0001 02 0000012c 0000000000000002 00000064 01 61"
+
+#define EIGHT "6162636465666768"
+#define THIRTY_TWO EIGHT EIGHT EIGHT EIGHT
+
+/* ---- Bench cases ---- */
+
+static const Step cases_1_and_2[] = {
+    {__LINE__, CLOCK, .at = 3, .value = 100, .record = {.time = 100}},
+    {__LINE__, SEND, .at = 3, .bytes = "4f4b", .value = 0,
+     .frame = "445259 0001 03 00000514 0000000000000000 02 4f4b",
+     .log = {"03 00000514 02 4f4b"},
+     .record = {.time = 100, .high = 1300, .marks = {{3, 1300}}, .barrier = {{3, 1300}}}},
+    {__LINE__, SEND, .at = 3, .bytes = "", .value = 0,
+     .frame = "445259 0001 03 00000515 0000000000000008 00000514 00",
+     .log = {"03 00000515 00"},
+     .record = {.time = 100, .high = 1301, .marks = {{3, 1301}}, .barrier = {{3, 1301}}}},
+};
+
+static const Step case_4[] = {
+    {__LINE__, CLOCK, .at = 1, .value = 1000, .record = {.time = 1000}},
+    {__LINE__, SEND, .at = 1, .bytes = "", .value = 100,
+     .frame = FROM_1_DUE_1100,
+     .log = {"01 0000044c 00"},
+     .record = {.time = 1000, .high = 1100, .marks = {{1, 1100}}, .barrier = {{1, 1100}}}},
+    {__LINE__, CLOCK, .at = 2, .value = 500, .record = {.time = 500}},
+    {__LINE__, RECEIVE, .at = 2, .bytes = FROM_1_DUE_1100,
+     .log = {"01 0000044c 00"},
+     .record = {.time = 500, .high = 1100, .marks = {{1, 1100}}, .barrier = {{1, 1100}}}},
+    {__LINE__, SEND, .at = 2, .bytes = "", .value = 50,
+     .frame = "445259 0001 02 0000044d 0000000000000002 0000044c 00",
+     .log = {"02 0000044d 00"},
+     .record = {.time = 500, .high = 1101, .marks = {{1, 1100}, {2, 1101}},
+                .barrier = {{2, 1101}}}},
+};
+
+static const Step case_5[] = {
+    {__LINE__, CLOCK, .at = 2, .value = 700, .record = {.time = 700}},
+    {__LINE__, RECEIVE, .at = 2, .bytes = FROM_1_DUE_700,
+     .log = {"01 000002bc 00"},
+     .record = {.time = 700, .high = 700, .marks = {{1, 700}}, .barrier = {{1, 700}}}},
+    {__LINE__, CLOCK, .at = 4, .value = 701, .record = {.time = 701}},
+    {__LINE__, RECEIVE, .at = 4, .bytes = FROM_1_DUE_700, .number = PANEL_REFUSED_LAPSED},
+};
+
+static const Step case_6[] = {
+    {__LINE__, CLOCK, .at = 0, .value = 4294967294, .record = {.time = 4294967294}},
+    {__LINE__, SEND, .at = 0, .bytes = "", .value = 1,
+     .frame = "445259 0001 00 ffffffff 0000000000000000 00",
+     .log = {"00 ffffffff 00"},
+     .record = {.time = 4294967294, .high = 4294967295, .marks = {{0, 4294967295}},
+                .barrier = {{0, 4294967295}}}},
+    {__LINE__, SEND, .at = 0, .bytes = "", .value = 1, .number = PANEL_REFUSED_DEADLINE_TOO_HIGH},
+};
+
+/* Both orders of arrival, at panels 2 and 4. */
+static const Step case_7[] = {
+    {__LINE__, RECEIVE, .at = 2, .bytes = FROM_9_DUE_200_AFTER_1,
+     .record = {.waiting = {FROM_9_DUE_200_AFTER_1}}},
+    {__LINE__, RECEIVE, .at = 2, .bytes = FROM_5_DUE_200_AFTER_1,
+     .record = {.waiting = {FROM_9_DUE_200_AFTER_1, FROM_5_DUE_200_AFTER_1}}},
+    {__LINE__, RECEIVE, .at = 2, .bytes = FROM_1_DUE_100,
+     .log = {"01 00000064 00", "05 000000c8 00", "09 000000c8 00"},
+     .record = {.high = 200, .marks = {{1, 100}, {5, 200}, {9, 200}},
+                .barrier = {{1, 100}, {5, 200}, {9, 200}}}},
+    {__LINE__, RECEIVE, .at = 4, .bytes = FROM_5_DUE_200_AFTER_1,
+     .record = {.waiting = {FROM_5_DUE_200_AFTER_1}}},
+    {__LINE__, RECEIVE, .at = 4, .bytes = FROM_9_DUE_200_AFTER_1,
+     .record = {.waiting = {FROM_5_DUE_200_AFTER_1, FROM_9_DUE_200_AFTER_1}}},
+    {__LINE__, RECEIVE, .at = 4, .bytes = FROM_1_DUE_100,
+     .log = {"01 00000064 00", "05 000000c8 00", "09 000000c8 00"},
+     .record = {.high = 200, .marks = {{1, 100}, {5, 200}, {9, 200}},
+                .barrier = {{1, 100}, {5, 200}, {9, 200}}}},
+};
+
+/* At panel 2 the clock passes both. At panel 4 it reaches the entry, and then passes it alone. At
+   panel 6 it passes the entry and reaches the message. */
+static const Step case_8[] = {
+    {__LINE__, RECEIVE, .at = 2, .bytes = FROM_5_DUE_200_AFTER_1,
+     .record = {.waiting = {FROM_5_DUE_200_AFTER_1}}},
+    {__LINE__, CLOCK, .at = 2, .value = 201, .record = {.time = 201}},
+    {__LINE__, RECEIVE, .at = 4, .bytes = FROM_5_DUE_200_AFTER_1,
+     .record = {.waiting = {FROM_5_DUE_200_AFTER_1}}},
+    {__LINE__, CLOCK, .at = 4, .value = 100,
+     .record = {.time = 100, .waiting = {FROM_5_DUE_200_AFTER_1}}},
+    {__LINE__, CLOCK, .at = 4, .value = 101,
+     .log = {"05 000000c8 00"},
+     .record = {.time = 101, .high = 200, .marks = {{5, 200}}, .barrier = {{5, 200}}}},
+    {__LINE__, RECEIVE, .at = 6, .bytes = FROM_5_DUE_200_AFTER_1,
+     .record = {.waiting = {FROM_5_DUE_200_AFTER_1}}},
+    {__LINE__, CLOCK, .at = 6, .value = 200,
+     .log = {"05 000000c8 00"},
+     .record = {.time = 200, .high = 200, .marks = {{5, 200}}, .barrier = {{5, 200}}}},
+};
+
+static const Step case_10[] = {
+    {__LINE__, SEND, .at = 1, .bytes = THIRTY_TWO, .value = 0,
+     .frame = "445259 0001 01 000004b0 0000000000000000 20" THIRTY_TWO,
+     .log = {"01 000004b0 20" THIRTY_TWO},
+     .record = {.high = 1200, .marks = {{1, 1200}}, .barrier = {{1, 1200}}}},
+    {__LINE__, SEND, .at = 1, .bytes = THIRTY_TWO "69", .number = PANEL_REFUSED_PAYLOAD_LONG},
+    {__LINE__, RECEIVE, .at = 1, .bytes = "", .number = PANEL_REFUSED_FRAME_SHORT},
+};
+
+static const Step case_11[] = {
+    {__LINE__, CLOCK, .at = 0, .value = 50, .record = {.time = 50}},
+    {__LINE__, CLOCK, .at = 0, .value = 50, .record = {.time = 50}},
+    {__LINE__, CLOCK, .at = 0, .value = 49, .number = PANEL_REFUSED_CLOCK_BACK},
+};
+
+/* ---- A full list ---- */
+
+/* The next step at panel 7, when its list is full. */
+static Step full;
+
+/*
+ * Panel 7 takes 32 messages of panel 2, deadlines 100 to 131, which wait for one of panel 1 with
+ * deadline 50. Afterwards `full` expects the record as it is.
+ */
+static void fill(void)
+{
+    static char frames[PANEL_WAITING_MAX][64];
+
+    full = (Step){__LINE__, RECEIVE, .at = 7};
+    for (unsigned i = 0; i < PANEL_WAITING_MAX; i++) {
+        snprintf(frames[i], sizeof frames[i],
+                 "445259 0001 02 %08x 0000000000000002 00000032 00", 100 + i);
+        full.bytes = frames[i];
+        full.record.waiting[i] = frames[i];
+        step(&full);
+    }
+}
+
+/* Panel 7 receives a frame; what an accepted one is to give stands in `full`. */
+static void receive_full(int line, const char *frame, uint8_t number)
+{
+    full.line = line;
+    full.bytes = frame;
+    full.number = number;
+    step(&full);
+}
+
+static void case_9(void)
+{
+    static char logs[PANEL_WAITING_MAX][16];
+    static const Record settled = {.high = 131, .marks = {{1, 50}, {2, 131}, {4, 60}},
+                                   .barrier = {{1, 50}, {2, 131}, {4, 60}}};
+
+    start("case 9");
+    fill();
+    full.log[0] = "04 0000003c 00";
+    full.record.high = 60;
+    full.record.marks[0] = full.record.barrier[0] = (Due){4, 60};
+    receive_full(__LINE__, "445259 0001 04 0000003c 0000000000000000 00", PANEL_ACCEPTED);
+    full.log[0] = NULL;
+    receive_full(__LINE__, "445259 0001 02 000000c8 0000000000000002 00000032 00",
+                 PANEL_REFUSED_LIST_FULL);
+
+    /* what they wait for: 33 log records, and every place is free again */
+    full.log[0] = "01 00000032 00";
+    for (unsigned i = 0; i < PANEL_WAITING_MAX; i++) {
+        snprintf(logs[i], sizeof logs[i], "02 %08x 00", 100 + i);
+        full.log[1 + i] = logs[i];
+    }
+    full.record = settled;
+    receive_full(__LINE__, "445259 0001 01 00000032 0000000000000000 00", PANEL_ACCEPTED);
+    memset(full.log, 0, sizeof full.log);
+    full.record.waiting[0] = "445259 0001 02 000000c8 0000000000000002 00000037 00";
+    receive_full(__LINE__, full.record.waiting[0], PANEL_ACCEPTED);
+}
+
+/* ---- Settling ---- */
+
+#define CHAIN_1 "445259 0001 01 00000064 0000000000000000 01 61"
+#define CHAIN_2 "445259 0001 01 00000065 0000000000000002 00000064 01 62"
+#define CHAIN_3 "445259 0001 01 00000066 0000000000000002 00000065 01 63"
+#define CHAIN_4 "445259 0001 01 00000067 0000000000000002 00000066 01 64"
+#define FROM_2_DUE_400 "445259 0001 02 00000190 0000000000000000 00"
+#define BEFORE_OWN "445259 0001 01 000007d0 0000000000000004 000004b0 01 61"
+
+static const Step settling[] = {
+    /* each is made ready by one that stands behind it in the list */
+    {__LINE__, RECEIVE, .at = 7, .bytes = CHAIN_4, .record = {.waiting = {CHAIN_4}}},
+    {__LINE__, RECEIVE, .at = 7, .bytes = CHAIN_3, .record = {.waiting = {CHAIN_4, CHAIN_3}}},
+    {__LINE__, RECEIVE, .at = 7, .bytes = CHAIN_2,
+     .record = {.waiting = {CHAIN_4, CHAIN_3, CHAIN_2}}},
+    {__LINE__, RECEIVE, .at = 7, .bytes = CHAIN_1,
+     .log = {"01 00000064 01 61", "01 00000065 01 62", "01 00000066 01 63", "01 00000067 01 64"},
+     .record = {.high = 103, .marks = {{1, 103}}, .barrier = {{1, 103}}}},
+    /* the lower deadline first, not the lower source or the earlier one; one is left */
+    {__LINE__, RECEIVE, .at = 8, .bytes = FROM_2_DUE_300_AFTER_1,
+     .record = {.waiting = {FROM_2_DUE_300_AFTER_1}}},
+    {__LINE__, RECEIVE, .at = 8, .bytes = CHAIN_4,
+     .record = {.waiting = {FROM_2_DUE_300_AFTER_1, CHAIN_4}}},
+    {__LINE__, RECEIVE, .at = 8, .bytes = FROM_5_DUE_200_AFTER_1,
+     .record = {.waiting = {FROM_2_DUE_300_AFTER_1, CHAIN_4, FROM_5_DUE_200_AFTER_1}}},
+    {__LINE__, RECEIVE, .at = 8, .bytes = CHAIN_1,
+     .log = {"01 00000064 01 61", "05 000000c8 00", "02 0000012c 01 61"},
+     .record = {.high = 300, .marks = {{1, 100}, {5, 200}, {2, 300}},
+                .barrier = {{1, 100}, {5, 200}, {2, 300}}, .waiting = {CHAIN_4}}},
+    /* mark, barrier entry and high stay the larger ones where a lower deadline is handed later */
+    {__LINE__, RECEIVE, .at = 9, .bytes = FROM_2_DUE_300_AFTER_1,
+     .record = {.waiting = {FROM_2_DUE_300_AFTER_1}}},
+    {__LINE__, RECEIVE, .at = 9, .bytes = FROM_2_DUE_400, .log = {"02 00000190 00"},
+     .record = {.high = 400, .marks = {{2, 400}}, .barrier = {{2, 400}},
+                .waiting = {FROM_2_DUE_300_AFTER_1}}},
+    {__LINE__, RECEIVE, .at = 9, .bytes = CHAIN_1,
+     .log = {"01 00000064 01 61", "02 0000012c 01 61"},
+     .record = {.high = 400, .marks = {{1, 100}, {2, 400}}, .barrier = {{1, 100}, {2, 400}}}},
+    /* a send settles after the own message was handed, and empties the barrier before that */
+    {__LINE__, RECEIVE, .at = 2, .bytes = CHAIN_1, .log = {"01 00000064 01 61"},
+     .record = {.high = 100, .marks = {{1, 100}}, .barrier = {{1, 100}}}},
+    {__LINE__, RECEIVE, .at = 2, .bytes = BEFORE_OWN,
+     .record = {.high = 100, .marks = {{1, 100}}, .barrier = {{1, 100}}, .waiting = {BEFORE_OWN}}},
+    {__LINE__, SEND, .at = 2, .bytes = "6f", .value = PANEL_LIFETIME_DEFAULT,
+     .frame = "445259 0001 02 000004b0 0000000000000002 00000064 01 6f",
+     .log = {"02 000004b0 01 6f", "01 000007d0 01 61"},
+     .record = {.high = 2000, .marks = {{1, 2000}, {2, 1200}}, .barrier = {{1, 2000}, {2, 1200}}}},
+    /* the longest lifetime, and buffers beyond the least */
+    {__LINE__, SEND, .at = 10, .bytes = "6f", .value = 65535, .output_more = MORE_MAX,
+     .buffer_more = MORE_MAX,
+     .frame = "445259 0001 0a 0000ffff 0000000000000000 01 6f",
+     .log = {"0a 0000ffff 01 6f"},
+     .record = {.high = 65535, .marks = {{10, 65535}}, .barrier = {{10, 65535}}}},
+};
+
+/* ---- Refusals ---- */
+
+/* The orders: in each row what the rows behind it are refused for applies too, as far as it can. */
+static const Step send_order[] = {
+    {__LINE__, CLOCK, .at = 6, .value = 4294967295, .record = {.time = 4294967295}},
+    {__LINE__, SEND, .at = 6, .bytes = THIRTY_TWO "69", .value = 1, .broken = true,
+     .output_more = -1, .buffer_more = -1, .number = PANEL_REFUSED_RECORD_BROKEN},
+    {__LINE__, SEND, .at = 6, .bytes = THIRTY_TWO "69", .value = 1, .output_more = -1,
+     .buffer_more = -1, .number = PANEL_REFUSED_BUFFER_SHORT},
+    {__LINE__, SEND, .at = 6, .bytes = THIRTY_TWO "69", .value = 1, .buffer_more = -1,
+     .number = PANEL_REFUSED_BUFFER_SHORT},
+    {__LINE__, SEND, .at = 6, .bytes = THIRTY_TWO "69", .value = 1,
+     .number = PANEL_REFUSED_PAYLOAD_LONG},
+    {__LINE__, SEND, .at = 6, .bytes = THIRTY_TWO, .value = 1,
+     .number = PANEL_REFUSED_DEADLINE_TOO_HIGH},
+    /* buffers of no byte; one that is short */
+    {__LINE__, SEND, .at = 5, .bytes = "", .output_more = -PANEL_OUTPUT_MIN,
+     .buffer_more = -PANEL_FRAME_MAX, .number = PANEL_REFUSED_BUFFER_SHORT},
+    {__LINE__, SEND, .at = 5, .bytes = "", .output_more = -1,
+     .number = PANEL_REFUSED_BUFFER_SHORT},
+};
+
+static const Step clock_order[] = {
+    {__LINE__, CLOCK, .at = 6, .value = 50, .record = {.time = 50}},
+    {__LINE__, CLOCK, .at = 6, .value = 49, .broken = true, .output_more = -1,
+     .number = PANEL_REFUSED_RECORD_BROKEN},
+    {__LINE__, CLOCK, .at = 6, .value = 49, .output_more = -1,
+     .number = PANEL_REFUSED_BUFFER_SHORT},
+    {__LINE__, CLOCK, .at = 6, .value = 49, .number = PANEL_REFUSED_CLOCK_BACK},
+};
+
+/* Panel 3 has sent, so that 20, 21 and 22 apply to a frame of source 3 with deadline 9. */
+static const Step receive_order[] = {
+    {__LINE__, CLOCK, .at = 3, .value = 100, .record = {.time = 100}},
+    {__LINE__, SEND, .at = 3, .bytes = "", .value = 0,
+     .frame = "445259 0001 03 00000514 0000000000000000 00",
+     .log = {"03 00000514 00"},
+     .record = {.time = 100, .high = 1300, .marks = {{3, 1300}}, .barrier = {{3, 1300}}}},
+    {__LINE__, RECEIVE, .at = 3, .bytes = "455259 0002 40 00000000 ffffffffffffffff",
+     .broken = true, .output_more = -1, .number = PANEL_REFUSED_RECORD_BROKEN},
+    {__LINE__, RECEIVE, .at = 3, .bytes = "455259 0002 40 00000000 ffffffffffffffff",
+     .output_more = -1, .number = PANEL_REFUSED_BUFFER_SHORT},
+    {__LINE__, RECEIVE, .at = 3, .bytes = "445259 0001 03 00000009 0000000000000000 00",
+     .broken = true, .output_more = -1, .number = PANEL_REFUSED_RECORD_BROKEN},
+    {__LINE__, RECEIVE, .at = 3, .bytes = "445259 0001 03 00000009 0000000000000000 00",
+     .output_more = -1, .number = PANEL_REFUSED_BUFFER_SHORT},
+    {__LINE__, RECEIVE, .at = 3, .bytes = "455259 0002 40 00000000 ffffffffffffffff",
+     .number = PANEL_REFUSED_FRAME_SHORT},
+    {__LINE__, RECEIVE, .at = 3, .bytes = "455259 0002 40 00000000 ffffffffffffffff 21",
+     .number = PANEL_REFUSED_FRAME_MARK},
+    {__LINE__, RECEIVE, .at = 3, .bytes = "445259 0002 40 00000000 ffffffffffffffff 21",
+     .number = PANEL_REFUSED_FRAME_VERSION},
+    {__LINE__, RECEIVE, .at = 3, .bytes = "445259 0001 40 00000000 ffffffffffffffff 21",
+     .number = PANEL_REFUSED_FRAME_SOURCE},
+    {__LINE__, RECEIVE, .at = 3, .bytes = "445259 0001 03 00000000 ffffffffffffffff 21",
+     .number = PANEL_REFUSED_FRAME_DEADLINE},
+    {__LINE__, RECEIVE, .at = 3, .bytes = "445259 0001 03 00000009 0000000000000018 00000009 21",
+     .number = PANEL_REFUSED_FRAME_SHORT},
+    {__LINE__, RECEIVE, .at = 3, .bytes = "445259 0001 03 00000009 0000000000000008 00000009 21",
+     .number = PANEL_REFUSED_FRAME_ENTRY},
+    {__LINE__, RECEIVE, .at = 3, .bytes = "445259 0001 03 00000009 0000000000000008 00000008 21",
+     .number = PANEL_REFUSED_FRAME_PAYLOAD_LENGTH},
+    {__LINE__, RECEIVE, .at = 3, .bytes = "445259 0001 03 00000009 0000000000000008 00000008 01",
+     .number = PANEL_REFUSED_FRAME_SHORT},
+    {__LINE__, RECEIVE, .at = 3,
+     .bytes = "445259 0001 03 00000009 0000000000000008 00000008 01 6161",
+     .number = PANEL_REFUSED_FRAME_LEFT_OVER},
+    {__LINE__, RECEIVE, .at = 3, .bytes = "445259 0001 03 00000009 0000000000000008 00000008 01 61",
+     .number = PANEL_REFUSED_OWN_SOURCE},
+    /* 21 and 22, then 22 alone: by the mark, at the deadline and below it */
+    {__LINE__, RECEIVE, .at = 3, .bytes = FROM_1_DUE_700, .log = {"01 000002bc 00"},
+     .record = {.time = 100, .high = 1300, .marks = {{1, 700}, {3, 1300}},
+                .barrier = {{1, 700}, {3, 1300}}}},
+    {__LINE__, RECEIVE, .at = 3, .bytes = "445259 0001 01 00000063 0000000000000000 00",
+     .number = PANEL_REFUSED_LAPSED},
+    {__LINE__, RECEIVE, .at = 3, .bytes = FROM_1_DUE_700, .number = PANEL_REFUSED_HAD_ALREADY},
+    {__LINE__, RECEIVE, .at = 3, .bytes = FROM_1_DUE_100, .number = PANEL_REFUSED_HAD_ALREADY},
+};
+
+/* With a full list: 20 and 22 before 23. A message that has lapsed is ready: never 21 and 23. */
+static void full_order(void)
+{
+    start("order with a full list");
+    fill();
+    full.log[0] = "04 00000064 00";
+    full.record.high = 100;
+    full.record.marks[0] = full.record.barrier[0] = (Due){4, 100};
+    receive_full(__LINE__, "445259 0001 04 00000064 0000000000000000 00", PANEL_ACCEPTED);
+    full.log[0] = NULL;
+    receive_full(__LINE__, "445259 0001 07 000000c8 0000000000000002 00000032 00",
+                 PANEL_REFUSED_OWN_SOURCE);
+    receive_full(__LINE__, "445259 0001 04 00000064 0000000000000002 00000032 00",
+                 PANEL_REFUSED_HAD_ALREADY);
+    receive_full(__LINE__, "445259 0001 02 00000083 0000000000000002 00000032 00",
+                 PANEL_REFUSED_HAD_ALREADY);
+    receive_full(__LINE__, "445259 0001 04 00000065 0000000000000002 00000032 00",
+                 PANEL_REFUSED_LIST_FULL);
+}
+
+/* ---- Broken records, and odd ones ---- */
+
+/* Each call refuses the record with 26. */
+static void refused_as_broken(int line, const Panel *p)
+{
+    static const Step calls[] = {
+        {.call = SEND, .bytes = "", .number = PANEL_REFUSED_RECORD_BROKEN},
+        {.call = RECEIVE, .bytes = FROM_1_DUE_700, .number = PANEL_REFUSED_RECORD_BROKEN},
+        {.call = CLOCK, .value = 0, .number = PANEL_REFUSED_RECORD_BROKEN},
+    };
+    for (size_t i = 0; i < sizeof calls / sizeof calls[0]; i++) {
+        Step s = calls[i];
+        s.line = line;
+        call(&s, p);
+    }
+}
+
+/* The record of panel 3 with a change in p or in slot, that of its last waiting message. */
+#define BROKEN(change)                              \
+    do {                                            \
+        Panel p = panels[3];                        \
+        uint8_t *slot = p.slots + PANEL_SLOT_BYTES; \
+        (void)slot;                                 \
+        change;                                     \
+        refused_as_broken(__LINE__, &p);            \
+    } while (0)
+
+/* Panel 3 with two waiting messages, its high at 100. */
+static const Step two_waiting[] = {
+    {__LINE__, RECEIVE, .at = 3, .bytes = CHAIN_1, .log = {"01 00000064 01 61"},
+     .record = {.high = 100, .marks = {{1, 100}}, .barrier = {{1, 100}}}},
+    {__LINE__, RECEIVE, .at = 3, .bytes = CHAIN_4,
+     .record = {.high = 100, .marks = {{1, 100}}, .barrier = {{1, 100}}, .waiting = {CHAIN_4}}},
+    {__LINE__, RECEIVE, .at = 3, .bytes = CHAIN_3,
+     .record = {.high = 100, .marks = {{1, 100}}, .barrier = {{1, 100}},
+                .waiting = {CHAIN_4, CHAIN_3}}},
+};
+
+static void broken_records(void)
+{
+    RUN("broken records", two_waiting);
+    BROKEN(p.own = 64);
+    BROKEN(p.own = 255);
+    BROKEN(p.marks[0] = 101);
+    BROKEN(p.marks[63] = 4294967295);
+    BROKEN(p.barrier[0] = 101);
+    BROKEN(p.barrier[63] = 4294967295);
+    BROKEN(p.high = 99);
+    BROKEN(p.count = 33);
+    BROKEN(p.count = SIZE_MAX);
+    BROKEN(p.count = 3);                /* the third slot holds no frame */
+    BROKEN(slot[1] = 0);                /* no byte */
+    BROKEN(slot[1] = 23);               /* the payload cut off */
+    BROKEN(slot[1] = 25);               /* a byte left over */
+    BROKEN(slot[0] = 1);                /* 256 bytes left over */
+    BROKEN(slot[0] = 255);              /* more bytes than the slot has */
+    BROKEN(slot[2] = 0x45);             /* mark */
+    BROKEN(slot[2 + 4] = 2);            /* version */
+    BROKEN(slot[2 + 5] = 64);           /* source */
+    BROKEN(memset(slot + 2 + 6, 0, 4)); /* deadline 0 */
+    BROKEN(slot[2 + 17] = 3);           /* two entries, and bytes for one */
+    BROKEN(slot[2 + 21] = 0);           /* entry 0 */
+    BROKEN(slot[2 + 21] = 0x66);        /* entry equal to the deadline */
+    BROKEN(slot[2 + 22] = 33);          /* payload length */
+
+    /* 33 waiting, and each of the 32 slots holds a frame */
+    fill();
+    panels[7].count = 33;
+    refused_as_broken(__LINE__, &panels[7]);
+}
+
+/* A record at the limits of 26, with other bytes where they are no part of it. */
+static void whole_record(void)
+{
+    static const Step same_time = {
+        __LINE__, CLOCK, .at = 63, .value = 0,
+        .record = {.high = 100, .marks = {{1, 100}, {63, 100}}, .barrier = {{0, 100}, {1, 100}},
+                   .waiting = {CHAIN_4, CHAIN_3}}};
+
+    RUN("a record that is not broken", two_waiting);
+    Panel p = panels[3];
+    p.own = 63;
+    p.marks[63] = p.barrier[0] = 100;
+    memset(p.slots + 2 + 24, 0xff, PANEL_SLOT_BYTES - 2 - 24);
+    memset(p.slots + 2 * PANEL_SLOT_BYTES, 0xff, 30 * PANEL_SLOT_BYTES);
+    call(&same_time, &p);
+}
+
+/* Records that no list of calls leads to are worked on, if 26 does not name them. */
+static void odd_records(void)
+{
+    static const Step lapsed = {__LINE__, RECEIVE, .at = 3, .bytes = CHAIN_4,
+                                .number = PANEL_REFUSED_LAPSED};
+    static const Step dropped = {
+        __LINE__, CLOCK, .at = 3, .value = 104,
+        .record = {.time = 104, .high = 100, .marks = {{1, 100}}, .barrier = {{1, 100}}}};
+    static const Step twice = {
+        __LINE__, CLOCK, .at = 3, .value = 0,
+        .log = {"01 00000066 01 63", "01 00000067 01 64", "01 00000067 01 7a"},
+        .record = {.high = 103, .marks = {{1, 103}}, .barrier = {{1, 103}}}};
+
+    /* 21 before 22: a waiting message that has lapsed */
+    RUN("odd records", two_waiting);
+    panels[3].time = 104;
+    step(&lapsed);
+    step(&dropped);
+
+    /* waiting messages that are ready, one of them twice: then the earliest in the list first */
+    RUN("odd records", two_waiting);
+    put_waiting(&panels[3], "445259 0001 01 00000067 0000000000000002 00000066 01 7a");
+    panels[3].high = panels[3].marks[1] = panels[3].barrier[1] = 101;
+    step(&twice);
+}
+
+/* ---- Frames ---- */
+
+static const struct {
+    int line;
+    const char *bytes;
+    uint8_t number;
+} frames[] = {
+    {__LINE__, "445259 0001 03 00000009 0000000000000008 00000004 03 647279", 0},
+    {__LINE__, "445259 0001 00 00000001 0000000000000000 00", 0},
+    {__LINE__, "445259 0001 3f ffffffff 8000000000000001 00000001 fffffffe 00", 0},
+    {__LINE__, "445259 0001 3f 00000001 0000000000000000 20" THIRTY_TWO, 0},
+    /* fewer than 19 bytes */
+    {__LINE__, "", 1},
+    {__LINE__, "44", 1},
+    {__LINE__, "445259 0001 03 00000009 0000000000000000", 1},
+    {__LINE__, "000000 0000 ff 00000000 0000000000000000", 1},
+    /* mark */
+    {__LINE__, "455259 0001 03 00000009 0000000000000008 00000004 03 647279", 2},
+    {__LINE__, "445359 0001 03 00000009 0000000000000008 00000004 03 647279", 2},
+    {__LINE__, "445258 0001 03 00000009 0000000000000008 00000004 03 647279", 2},
+    /* version */
+    {__LINE__, "445259 0000 03 00000009 0000000000000008 00000004 03 647279", 3},
+    {__LINE__, "445259 0002 03 00000009 0000000000000008 00000004 03 647279", 3},
+    {__LINE__, "445259 0101 03 00000009 0000000000000008 00000004 03 647279", 3},
+    /* source */
+    {__LINE__, "445259 0001 40 00000009 0000000000000008 00000004 03 647279", 4},
+    {__LINE__, "445259 0001 ff 00000009 0000000000000008 00000004 03 647279", 4},
+    /* deadline 0 */
+    {__LINE__, "445259 0001 03 00000000 0000000000000008 00000004 03 647279", 5},
+    /* too few bytes for the entries and the length byte */
+    {__LINE__, "445259 0001 03 00000009 ffffffffffffffff 00000004 03 647279", 1},
+    {__LINE__, "445259 0001 03 00000009 0000000000000008 00", 1},
+    {__LINE__, "445259 0001 03 00000009 0000000000000008 00000004", 1},
+    {__LINE__, "445259 0001 03 00000009 0000000000000008 00000000", 1},
+    /* entries */
+    {__LINE__, "445259 0001 03 00000009 0000000000000008 00000000 03 647279", 6},
+    {__LINE__, "445259 0001 03 00000009 0000000000000008 00000009 03 647279", 6},
+    {__LINE__, "445259 0001 03 00000009 0000000000000008 ffffffff 03 647279", 6},
+    {__LINE__, "445259 0001 03 00000009 8000000000000008 00000004 00000009 00", 6},
+    {__LINE__, "445259 0001 03 00000009 8000000000000008 00000000 00000004 00", 6},
+    /* payload length */
+    {__LINE__, "445259 0001 03 00000009 0000000000000008 00000004 21" THIRTY_TWO "69", 7},
+    {__LINE__, "445259 0001 03 00000009 0000000000000008 00000004 ff", 7},
+    /* too few bytes for the payload */
+    {__LINE__, "445259 0001 03 00000009 0000000000000008 00000004 03 6472", 1},
+    {__LINE__, "445259 0001 03 00000009 0000000000000008 00000004 03", 1},
+    {__LINE__, "445259 0001 03 00000009 0000000000000000 20", 1},
+    /* bytes left over */
+    {__LINE__, "445259 0001 03 00000009 0000000000000008 00000004 03 647279 00", 8},
+    {__LINE__, "445259 0001 03 00000009 0000000000000008 00000004 02 647279", 8},
+    {__LINE__, "445259 0001 03 00000009 0000000000000000 00 00", 8},
+};
+
+/* The frame check alone, and a receive of what it turns down. */
+static void damaged_frames(void)
+{
+    uint8_t bytes[BYTES_MAX];
+
+    start("frames");
+    for (size_t i = 0; i < sizeof frames / sizeof frames[0]; i++) {
+        size_t length = put_bytes(bytes, frames[i].bytes);
+        same_number(frames[i].line, "frame check", frame_check(bytes, length), frames[i].number);
+        Step s = {frames[i].line, RECEIVE, .at = 9, .bytes = frames[i].bytes,
+                  .number = frames[i].number};
+        if (s.number != PANEL_ACCEPTED)
+            step(&s);
+    }
+}
+
+/* The longest frame, one byte less and one more. */
+static void check_longest(const char *frame)
+{
+    uint8_t bytes[BYTES_MAX] = {0};
+
+    same_number(__LINE__, "length", put_bytes(bytes, frame), PANEL_FRAME_MAX);
+    same_number(__LINE__, "frame check", frame_check(bytes, PANEL_FRAME_MAX), 0);
+    same_number(__LINE__, "frame check", frame_check(bytes, PANEL_FRAME_MAX - 1), 1);
+    same_number(__LINE__, "frame check", frame_check(bytes, PANEL_FRAME_MAX + 1), 8);
+}
+
+/* Panel 63 sends, takes a message of each other panel, and sends a frame with 64 entries. */
+static void longest_frame(void)
+{
+    static char frame[2 * PANEL_FRAME_MAX + PANEL_PANELS + 16], received[64], log[16];
+    static Step s;
+
+    start("the longest frame");
+    s = (Step){__LINE__, SEND, .at = 63, .bytes = "", .value = 100,
+               .frame = "445259 0001 3f 00000064 0000000000000000 00", .log = {"3f 00000064 00"},
+               .record = {.high = 100, .marks = {{63, 100}}, .barrier = {{63, 100}}}};
+    step(&s);
+    s = (Step){__LINE__, RECEIVE, .at = 63, .bytes = received, .log = {log}, .record = s.record};
+    int end = snprintf(frame, sizeof frame, "445259 0001 3f 000003e8 ffffffffffffffff");
+    for (unsigned p = 0; p < 63; p++) {
+        unsigned due = 200 + p;
+        snprintf(received, sizeof received, "445259 0001 %02x %08x 0000000000000000 00", p, due);
+        snprintf(log, sizeof log, "%02x %08x 00", p, due);
+        s.record.high = due;
+        s.record.marks[1 + p] = s.record.barrier[1 + p] = (Due){(uint8_t)p, due};
+        step(&s);
+        end += snprintf(frame + end, sizeof frame - (size_t)end, " %08x", due);
+    }
+    snprintf(frame + end, sizeof frame - (size_t)end, " 00000064 20%s", THIRTY_TWO);
+    s = (Step){__LINE__, SEND, .at = 63, .bytes = THIRTY_TWO, .value = 1000, .frame = frame,
+               .log = {"3f 000003e8 20" THIRTY_TWO}, .record = s.record};
+    s.record.high = 1000;
+    s.record.marks[0] = (Due){63, 1000};
+    memset(s.record.barrier, 0, sizeof s.record.barrier);
+    s.record.barrier[0] = (Due){63, 1000};
+    step(&s);
+    s = (Step){__LINE__, RECEIVE, .at = 5, .bytes = frame, .record = {.waiting = {frame}}};
+    step(&s);
+    check_longest(frame);
+}
+
+/* ---- Fresh panels ---- */
+
+static void fresh_panels(void)
+{
+    static const Record none;
+
+    part = "fresh panels";
+    for (unsigned own = 0; own < 256; own++) {
+        bool known = own < PANEL_PANELS;
+        PanelFresh answer = panel_fresh((uint8_t)own);
+        Panel expected = panel_of(known ? (uint8_t)own : 0, &none);
+        same_answer(__LINE__, answer.number, known ? PANEL_ACCEPTED : PANEL_REFUSED_PANEL_NUMBER);
+        same_record(__LINE__, &answer.panel, &expected);
+    }
+}
+
+/* Every number of document 01 was answered by some call. */
+static void all_seen(void)
+{
+    part = "numbers answered";
+    for (int number = PANEL_ACCEPTED; number <= PANEL_REFUSED_RECORD_BROKEN; number++) {
+        bool known = number <= PANEL_REFUSED_PANEL_NUMBER || number >= PANEL_REFUSED_OWN_SOURCE;
+        if (fails(seen[number] == known, __LINE__, "number"))
+            printf(" %d: %s\n", number, known ? "never" : "no number of document 01");
+    }
+}
+
+int main(void)
+{
+    fresh_panels();
+    RUN("cases 1 and 2", cases_1_and_2);
+    RUN("case 4", case_4);
+    RUN("case 5", case_5);
+    RUN("case 6", case_6);
+    RUN("case 7", case_7);
+    RUN("case 8", case_8);
+    case_9();
+    RUN("case 10", case_10);
+    RUN("case 11", case_11);
+    RUN("settling", settling);
+    RUN("order of send", send_order);
+    RUN("order of clock", clock_order);
+    RUN("order of receive", receive_order);
+    full_order();
+    broken_records();
+    whole_record();
+    odd_records();
+    damaged_frames();
+    longest_frame();
+    all_seen();
+    printf("%lu checks, %lu failed\n", checks, failed);
+    return failed == 0 ? EXIT_SUCCESS : EXIT_FAILURE;
+}

@@ -21,7 +21,7 @@ static uint32_t random_reading(const Panel *p)
         if (p->count == 0 || p->count > WAITING_MAX)
             return plus(p->high, (int64_t)rnd(3) - 1);
         /* about the deadline of a waiting message */
-        const uint8_t *d = p->slots + SLOT_BYTES * rnd((uint32_t)p->count) + 8;
+        const uint8_t *d = p->slots + PANEL_SLOT_BYTES * rnd((uint32_t)p->count) + 8;
         uint32_t deadline = (uint32_t)d[0] << 24 | (uint32_t)d[1] << 16 |
                             (uint32_t)d[2] << 8 | d[3];
         return plus(deadline, (int64_t)rnd(3) - 1);

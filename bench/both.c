@@ -102,7 +102,7 @@ static void same_record(const Panel *p, const Record *r)
     same_words("barrier entry", p->barrier, r->barrier);
     same_number("number of waiting messages", p->count, r->count);
     for (size_t i = 0; i < r->count; i++) {
-        const uint8_t *slot = p->slots + SLOT_BYTES * i;
+        const uint8_t *slot = p->slots + PANEL_SLOT_BYTES * i;
         uint8_t frame[FRAME_MAX];
         char what[64];
         size_t n = c_frame_write(&r->waiting[i], frame);
@@ -131,11 +131,11 @@ static void same_given(const Panel *p)
         field = "barrier";
     if (field)
         differ("refused, but changed in the record: %s", field);
-    for (size_t i = 0; i < SLOTS_BYTES; i++) {
+    for (size_t i = 0; i < PANEL_SLOTS_BYTES; i++) {
         if (p->slots[i] != given.slots[i])
             differ("refused, but changed in the record: slot %zu, byte %zu (%s)",
-                   i / SLOT_BYTES, i % SLOT_BYTES,
-                   i / SLOT_BYTES < given.count ? "waiting" : "behind the last");
+                   i / PANEL_SLOT_BYTES, i % PANEL_SLOT_BYTES,
+                   i / PANEL_SLOT_BYTES < given.count ? "waiting" : "behind the last");
     }
 }
 
@@ -167,6 +167,11 @@ static void lend(Lent *lent, size_t least)
         lent->n = least;
     else
         lent->n = least + rnd((uint32_t)(LENT_MAX - least + 1));
+}
+
+static Buffer lent_to_c(Lent *lent)
+{
+    return (Buffer){lent->c + MARGIN, lent->n};
 }
 
 static void same_lent(const char *what, const Lent *lent)
@@ -208,7 +213,7 @@ void both_fresh(uint8_t own, Panel *p, Record *r)
     calls_made++;
     kind_now = OF_FRESH;
     note("own", own, NULL, 0, 0);
-    Fresh f = panel_fresh(own);
+    PanelFresh f = panel_fresh(own);
     uint8_t number = c_fresh(r, own);
     seen[OF_FRESH][number]++;
     same_number("the number", f.number, number);
@@ -220,21 +225,22 @@ void both_send(Panel *p, Record *r, const uint8_t *payload, size_t n,
                uint16_t lifetime, Bytes *frame)
 {
     uint8_t copy[BUFFER];
-    size_t count;
+    Written written;
 
     start_call(OF_SEND, p, r);
     lend(&buffer, FRAME_MAX);
     note("lifetime", lifetime, payload, n, output.n);
     memcpy(copy, payload, n);
-    Sent s = panel_send(*p, payload, n, lifetime, output.proved + MARGIN,
+    PanelSent s = panel_send(*p, payload, n, lifetime, output.proved + MARGIN,
                         output.n, buffer.proved + MARGIN, buffer.n);
     if (memcmp(copy, payload, n) != 0)
         differ("the payload was written to");
-    uint8_t number = c_send(r, payload, n, lifetime, output.c + MARGIN, output.n,
-                            buffer.c + MARGIN, buffer.n, &count, &frame->n);
-    end_call(s.number, number, s.count, count, &s.panel, r);
-    same_number("the length of the frame", s.length, frame->n);
+    uint8_t number = c_send(r, (Slice){payload, n}, lifetime, lent_to_c(&output),
+                            lent_to_c(&buffer), &written);
+    end_call(s.number, number, s.count, written.count, &s.panel, r);
+    same_number("the length of the frame", s.length, written.length);
     same_lent("frame buffer", &buffer);
+    frame->n = written.length;
     memcpy(frame->bytes, buffer.c + MARGIN, frame->n);
     memcpy(p, &s.panel, sizeof *p);
 }
@@ -242,28 +248,28 @@ void both_send(Panel *p, Record *r, const uint8_t *payload, size_t n,
 void both_receive(Panel *p, Record *r, const uint8_t *frame, size_t n)
 {
     uint8_t copy[BUFFER];
-    size_t count;
+    Written written;
 
     start_call(OF_RECEIVE, p, r);
     note("receive", 0, frame, n, output.n);
     memcpy(copy, frame, n);
-    Received s = panel_receive(*p, frame, n, output.proved + MARGIN, output.n);
+    PanelReceived s = panel_receive(*p, frame, n, output.proved + MARGIN, output.n);
     if (memcmp(copy, frame, n) != 0)
         differ("the frame was written to");
-    uint8_t number = c_receive(r, frame, n, output.c + MARGIN, output.n, &count);
-    end_call(s.number, number, s.count, count, &s.panel, r);
+    uint8_t number = c_receive(r, (Slice){frame, n}, lent_to_c(&output), &written);
+    end_call(s.number, number, s.count, written.count, &s.panel, r);
     memcpy(p, &s.panel, sizeof *p);
 }
 
 void both_clock(Panel *p, Record *r, uint32_t time)
 {
-    size_t count;
+    Written written;
 
     start_call(OF_CLOCK, p, r);
     note("reading", time, NULL, 0, output.n);
-    Clocked s = panel_clock(*p, time, output.proved + MARGIN, output.n);
-    uint8_t number = c_clock(r, time, output.c + MARGIN, output.n, &count);
-    end_call(s.number, number, s.count, count, &s.panel, r);
+    PanelClocked s = panel_clock(*p, time, output.proved + MARGIN, output.n);
+    uint8_t number = c_clock(r, time, lent_to_c(&output), &written);
+    end_call(s.number, number, s.count, written.count, &s.panel, r);
     memcpy(p, &s.panel, sizeof *p);
 }
 

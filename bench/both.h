@@ -6,7 +6,7 @@
 #define BOTH_H
 
 #include "frames.h"
-#include "panel.h"
+#include "../include/panel.h"
 #include "reference.h"
 
 extern unsigned long calls_made;

@@ -1,14 +1,13 @@
-/* The calls that are timed and whose stack is measured. */
+/* The calls that are measured, with their records and arguments. */
 #include "case.h"
 
 #include "convert.h"
 
-#include <stdbool.h>
 #include <string.h>
 
 Case now;
-uint8_t out_proved[OUTPUT_MIN], out_c[OUTPUT_MIN];
-uint8_t buf_proved[FRAME_MAX], buf_c[FRAME_MAX];
+
+/* ---- Messages ---- */
 
 Message plain(uint8_t source, uint32_t deadline, uint8_t length)
 {
@@ -43,6 +42,16 @@ Message early(uint8_t source, uint32_t deadline)
     return m;
 }
 
+Message longest(uint8_t source, uint32_t deadline)
+{
+    Message m = plain(source, deadline, 32);
+    for (uint8_t s = 0; s < PANELS; s++)
+        entry(&m, s, 500);
+    return m;
+}
+
+/* ---- Records ---- */
+
 void empty(void)
 {
     memset(&now, 0, sizeof now);
@@ -52,6 +61,7 @@ void empty(void)
     for (int s = 40; s < 43; s++)
         now.panel.marks[s] = now.panel.barrier[s] = 600;
     now.out_n = OUTPUT_MIN;
+    now.buf_n = FRAME_MAX;
 }
 
 static void linked(size_t n, bool rising)
@@ -85,17 +95,26 @@ void long_frames(size_t n)
     for (int s = 0; s < PANELS; s++)
         now.panel.marks[s] = s == 62 ? 0 : 600;
     for (size_t k = 0; k < n; k++) {
-        Message m = plain((uint8_t)k, (uint32_t)(1000 + k), 32);
-        for (int s = 0; s < PANELS; s++)
-            entry(&m, (uint8_t)s, 500);
+        Message m = longest((uint8_t)k, (uint32_t)(1000 + k));
         slot_write(&now.panel, k, &m);
     }
 }
 
-void to_receive(const Message *m)
+/* ---- Calls ---- */
+
+void to_check(const Message *m)
 {
-    now.kind = RECEIVE;
+    now.kind = CHECK;
     now.n = c_frame_write(m, now.bytes);
+}
+
+/* The record at hand is the one that the call gives, so the call changes nothing. */
+void to_fresh(uint8_t own)
+{
+    memset(&now, 0, sizeof now);
+    now.kind = FRESH;
+    now.own = own;
+    now.panel.own = own < PANELS ? own : 0;
 }
 
 void to_send(uint8_t length, uint16_t lifetime)
@@ -106,30 +125,24 @@ void to_send(uint8_t length, uint16_t lifetime)
     memset(now.bytes, 0x4F, length);
 }
 
+void to_receive(const Message *m)
+{
+    now.kind = RECEIVE;
+    now.n = c_frame_write(m, now.bytes);
+}
+
 void to_clock(uint32_t time)
 {
     now.kind = CLOCK;
     now.time = time;
 }
 
-void chain_and_send(void)
+void chain_and_send(size_t n)
 {
-    chain(32);
+    chain(n);
     now.panel.own = 62;
     now.panel.high = 499;
     memset(now.panel.marks, 0, sizeof now.panel.marks);
     memset(now.panel.barrier, 0, sizeof now.panel.barrier);
     to_send(32, 490);
 }
-
-static Clocked hollow_clock(Panel p, uint32_t time, uint8_t *out, size_t out_n)
-{
-    static Clocked answer;
-    (void)p;
-    (void)time;
-    (void)out;
-    (void)out_n;
-    return answer;
-}
-
-Clocked (*volatile hollow)(Panel, uint32_t, uint8_t *, size_t) = hollow_clock;

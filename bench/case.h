@@ -2,27 +2,28 @@
 #ifndef CASE_H
 #define CASE_H
 
-#include "panel.h"
+#include "../include/panel.h"
 #include "reference.h"
 
-typedef enum { SEND, RECEIVE, CLOCK, CHECK, NOTHING } Kind;
+#include <stdbool.h>
+
+typedef enum { NOTHING, CHECK, FRESH, SEND, RECEIVE, CLOCK, KINDS } Kind;
 
 typedef struct {
     Kind kind;
     Panel panel;
-    Record record;
+    Record record; /* the same, made of the panel when the case is started */
+    uint8_t own;   /* of a fresh panel */
     uint8_t bytes[FRAME_MAX + 1]; /* the frame, or the payload of a send */
     size_t n;
     uint16_t lifetime;
     uint32_t time;
-    size_t out_n;
+    size_t out_n; /* length of the output */
+    size_t buf_n; /* length of the buffer for the frame */
 } Case;
 
-/* The case at hand; its record is made of its panel when it is measured. */
+/* The case at hand. */
 extern Case now;
-
-extern uint8_t out_proved[OUTPUT_MIN], out_c[OUTPUT_MIN];
-extern uint8_t buf_proved[FRAME_MAX], buf_c[FRAME_MAX];
 
 /* ---- Messages ---- */
 
@@ -37,6 +38,9 @@ Message usual(uint8_t source, uint32_t deadline);
 
 /* The same with one entry that is not met. */
 Message early(uint8_t source, uint32_t deadline);
+
+/* The longest frame: 64 entries of 500, 32 bytes of payload. */
+Message longest(uint8_t source, uint32_t deadline);
 
 /* ---- Records: each starts the case anew ---- */
 
@@ -57,14 +61,13 @@ void long_frames(size_t n);
 
 /* ---- Calls ---- */
 
-void to_receive(const Message *m);
+void to_check(const Message *m);
+void to_fresh(uint8_t own);
 void to_send(uint8_t length, uint16_t lifetime);
+void to_receive(const Message *m);
 void to_clock(uint32_t time);
 
-/* A chain of 32, and the send that settles it. */
-void chain_and_send(void);
-
-/* A call by value that only gives an answer of the same size. */
-extern Clocked (*volatile hollow)(Panel, uint32_t, uint8_t *, size_t);
+/* A chain of n, and the send that settles it. */
+void chain_and_send(size_t n);
 
 #endif

@@ -49,12 +49,12 @@ void record_of_panel(const Panel *p, Record *r)
     memcpy(r->marks, p->marks, sizeof r->marks);
     memcpy(r->barrier, p->barrier, sizeof r->barrier);
     for (size_t i = 0; i < p->count && i < WAITING_MAX; i++)
-        message_of_slot(p->slots + SLOT_BYTES * i, &r->waiting[i]);
+        message_of_slot(p->slots + PANEL_SLOT_BYTES * i, &r->waiting[i]);
 }
 
 void slot_write(Panel *p, size_t place, const Message *m)
 {
-    uint8_t *slot = p->slots + SLOT_BYTES * place;
+    uint8_t *slot = p->slots + PANEL_SLOT_BYTES * place;
     size_t n = c_frame_write(m, slot + 2);
     slot[0] = (uint8_t)(n >> 8);
     slot[1] = (uint8_t)n;

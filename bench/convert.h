@@ -2,7 +2,7 @@
 #ifndef CONVERT_H
 #define CONVERT_H
 
-#include "panel.h"
+#include "../include/panel.h"
 #include "reference.h"
 
 /* A slot without a readable frame becomes a message that is not readable. */

@@ -110,69 +110,75 @@ static void forge(Bytes *b, const Panel *p)
     b->n = c_frame_write(&m, b->bytes);
 }
 
+/* Entries that the frame has, as far as its mask and length go. */
+static size_t entries_of(const Bytes *b)
+{
+    size_t most = (b->n - FRAME_MIN) / 4; /* if no payload */
+    uint64_t mask = 0;
+    for (int i = 0; i < 8; i++)
+        mask = mask << 8 | b->bytes[10 + i];
+    size_t stated = (size_t)__builtin_popcountll(mask);
+    return stated < most ? stated : most;
+}
+
+/* 0, the deadline, or a number that differs from it in a bit. */
+static void damage_entry(uint8_t *entry, const uint8_t *deadline)
+{
+    if (chance(300))
+        memset(entry, 0, 4);
+    else
+        memcpy(entry, deadline, 4);
+    if (chance(300))
+        entry[rnd(4)] ^= (uint8_t)(1u << rnd(8));
+}
+
+static void damage_length(Bytes *b)
+{
+    switch (rnd(3)) {
+    case 0:
+        b->n = rnd((uint32_t)b->n);
+        break;
+    case 1: {
+        size_t more = 1 + (chance(500) ? 0 : rnd(100));
+        rnd_bytes(b->bytes + b->n, more);
+        b->n += more;
+        break;
+    }
+    default:
+        b->n--;
+        break;
+    }
+}
+
 void damage(Bytes *b)
 {
     uint8_t *f = b->bytes;
     if (b->n < FRAME_MIN || b->n > FRAME_MAX)
         return;
-    size_t entries = (b->n - FRAME_MIN) / 4; /* at most, if no payload */
-    uint64_t mask = 0;
-    for (int i = 0; i < 8; i++)
-        mask = mask << 8 | f[10 + i];
-    size_t stated = (size_t)__builtin_popcountll(mask);
-    if (stated < entries)
-        entries = stated;
+    size_t entries = entries_of(b);
     uint8_t *length = f + 18 + 4 * entries;
+    uint32_t way = rnd(12);
 
-    switch (rnd(12)) {
-    case 0:
-        b->n = rnd((uint32_t)b->n);
-        break;
-    case 1:
+    if (way == 0)
         f[rnd(3)] ^= (uint8_t)(1 + rnd(255));
-        break;
-    case 2:
+    else if (way == 1)
         f[3 + rnd(2)] ^= (uint8_t)(1 + rnd(255));
-        break;
-    case 3:
+    else if (way == 2)
         f[5] = (uint8_t)(64 + rnd(192));
-        break;
-    case 4:
+    else if (way == 3)
         memset(f + 6, 0, 4);
-        break;
-    case 5:
+    else if (way == 4)
         f[10 + rnd(8)] ^= (uint8_t)(1u << rnd(8));
-        break;
-    case 6:
-        if (entries > 0) {
-            uint8_t *entry = f + 18 + 4 * rnd((uint32_t)entries);
-            if (chance(300))
-                memset(entry, 0, 4);
-            else
-                memcpy(entry, f + 6, 4);
-            if (chance(300))
-                entry[rnd(4)] ^= (uint8_t)(1u << rnd(8));
-        }
-        break;
-    case 7:
+    else if (way == 5 && entries > 0)
+        damage_entry(f + 18 + 4 * rnd((uint32_t)entries), f + 6);
+    else if (way == 6)
         *length = (uint8_t)(33 + rnd(223));
-        break;
-    case 8:
+    else if (way == 7)
         *length = (uint8_t)rnd(33);
-        break;
-    case 9: {
-        size_t more = 1 + (chance(500) ? 0 : rnd(100));
-        rnd_bytes(f + b->n, more);
-        b->n += more;
-        break;
-    }
-    case 10:
-        b->n--;
-        break;
-    default:
+    else if (way < 11)
+        damage_length(b);
+    else
         f[rnd((uint32_t)b->n)] ^= (uint8_t)(1u << rnd(8));
-        break;
-    }
 }
 
 void random_frame(Bytes *b, const Panel *p)

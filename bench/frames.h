@@ -2,7 +2,7 @@
 #ifndef FRAMES_H
 #define FRAMES_H
 
-#include "panel.h"
+#include "../include/panel.h"
 #include "reference.h"
 
 enum { BYTES_MAX = 512 };

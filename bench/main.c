@@ -1,32 +1,30 @@
 /*
- * bench [CALLS [ROUNDS [SEED]]]
- *
- * Compares the proved archive with reference.c: agreement on CALLS random
- * calls, then times (best of ROUNDS), then stack. CALLS or ROUNDS 0 leaves
- * that part out.
+ * bench agreement CALLS SEED     the sides agree on so many random calls
+ * bench count                    the calls of each row, for callgrind
+ * bench table ROUNDS [COUNTS]    times, and the instructions in that file
+ * bench stack
  */
 #include "parts.h"
 
+#include <stdio.h>
 #include <stdlib.h>
+#include <string.h>
 
 int main(int argc, char **argv)
 {
-    unsigned long calls = 200000;
-    int rounds = 40;
-    uint64_t seed = 20240601;
+    const char *part = argc > 1 ? argv[1] : "";
 
-    if (argc > 1)
-        calls = strtoul(argv[1], NULL, 10);
-    if (argc > 2)
-        rounds = atoi(argv[2]);
-    if (argc > 3)
-        seed = strtoull(argv[3], NULL, 10);
-
-    if (calls > 0)
-        agreement_part(calls, seed);
-    if (rounds > 0) {
-        times_part(rounds);
+    if (strcmp(part, "agreement") == 0 && argc == 4)
+        agreement_part(strtoul(argv[2], NULL, 10), strtoull(argv[3], NULL, 10));
+    else if (strcmp(part, "count") == 0 && argc == 2)
+        count_part();
+    else if (strcmp(part, "table") == 0 && (argc == 3 || argc == 4))
+        table_part(atoi(argv[2]), argc == 4 ? argv[3] : NULL);
+    else if (strcmp(part, "stack") == 0 && argc == 2)
         stack_part();
+    else {
+        fprintf(stderr, "see main.c for the arguments\n");
+        return 2;
     }
     return 0;
 }

@@ -10,7 +10,7 @@
 void random_panel(Panel *p)
 {
     memset(p, 0, sizeof *p);
-    rnd_bytes(p->slots, SLOTS_BYTES);
+    rnd_bytes(p->slots, PANEL_SLOTS_BYTES);
     p->own = (uint8_t)rnd(PANELS);
     p->time = chance(900) ? rnd(60) : UINT32_MAX - rnd(80);
     for (int s = 0; s < PANELS; s++) {
@@ -46,7 +46,7 @@ void random_chain(Panel *p)
     uint8_t last_source = 0;
 
     memset(p, 0, sizeof *p);
-    rnd_bytes(p->slots, SLOTS_BYTES);
+    rnd_bytes(p->slots, PANEL_SLOTS_BYTES);
     p->own = (uint8_t)rnd(PANELS);
     p->time = 100 + rnd(10);
     p->count = chance(600) ? 32 : 1 + rnd(32);
@@ -73,61 +73,52 @@ void random_chain(Panel *p)
     }
 }
 
-void damage_panel(Panel *p)
+/* Another length in front of the frame, or the frame itself spoilt. */
+static void damage_slot(uint8_t *slot)
 {
-    bool some = p->count > 0 && p->count <= WAITING_MAX;
-    uint8_t *slot = p->slots +
-                    SLOT_BYTES * (some ? rnd((uint32_t)p->count) : rnd(32));
+    Bytes b;
+    uint32_t n = (uint32_t)slot[0] << 8 | slot[1];
 
-    switch (rnd(11)) {
-    case 0:
-        p->own = (uint8_t)(chance(300) ? 64 : 64 + rnd(192));
-        break;
-    case 1:
-        p->own = (uint8_t)rnd(PANELS);
-        break;
-    case 2:
-        p->marks[rnd(PANELS)] = plus(p->high, 1 + rnd(2) * rnd(100));
-        break;
-    case 3:
-        p->barrier[rnd(PANELS)] = plus(p->high, 1 + rnd(2) * rnd(100));
-        break;
-    case 4:
-        p->marks[rnd(PANELS)] = p->high;
-        p->barrier[rnd(PANELS)] = p->high;
-        break;
-    case 5:
-        p->high = plus(p->high, -1);
-        break;
-    case 6:
-        p->count = chance(500) ? 33 : chance(500) ? SIZE_MAX : (size_t)rnd64();
-        break;
-    case 7: /* more or fewer of the slots */
-        p->count = rnd(33);
-        break;
-    case 8: { /* another length */
-        uint32_t n = (uint32_t)slot[0] << 8 | slot[1];
+    if (chance(250)) {
         if (chance(500))
             n += chance(500) ? 1 : UINT32_MAX;
         else
             n = chance(500) ? 306 + rnd(5) : (uint32_t)rnd64();
-        slot[0] = (uint8_t)(n >> 8);
-        slot[1] = (uint8_t)n;
-        break;
-    }
-    default: {
-        Bytes b;
-        b.n = (size_t)slot[0] << 8 | slot[1];
-        if (b.n > FRAME_MAX)
-            b.n = FRAME_MAX;
+    } else {
+        b.n = n > FRAME_MAX ? FRAME_MAX : n;
         memcpy(b.bytes, slot + 2, b.n);
         damage(&b);
-        if (b.n > FRAME_MAX)
-            b.n = FRAME_MAX;
-        memcpy(slot + 2, b.bytes, b.n);
-        slot[0] = (uint8_t)(b.n >> 8);
-        slot[1] = (uint8_t)b.n;
-        break;
+        n = b.n > FRAME_MAX ? FRAME_MAX : (uint32_t)b.n;
+        memcpy(slot + 2, b.bytes, n);
     }
+    slot[0] = (uint8_t)(n >> 8);
+    slot[1] = (uint8_t)n;
+}
+
+void damage_panel(Panel *p)
+{
+    bool some = p->count > 0 && p->count <= WAITING_MAX;
+    uint32_t way = rnd(12);
+
+    if (way == 0) {
+        p->own = (uint8_t)(chance(300) ? 64 : 64 + rnd(192));
+    } else if (way == 1) {
+        p->own = (uint8_t)rnd(PANELS);
+    } else if (way == 2) {
+        p->marks[rnd(PANELS)] = plus(p->high, 1 + rnd(2) * rnd(100));
+    } else if (way == 3) {
+        p->barrier[rnd(PANELS)] = plus(p->high, 1 + rnd(2) * rnd(100));
+    } else if (way == 4) {
+        p->marks[rnd(PANELS)] = p->high;
+        p->barrier[rnd(PANELS)] = p->high;
+    } else if (way == 5) {
+        p->high = plus(p->high, -1);
+    } else if (way == 6) {
+        p->count = chance(500) ? 33 : chance(500) ? SIZE_MAX : (size_t)rnd64();
+    } else if (way == 7) { /* more or fewer of the slots */
+        p->count = rnd(33);
+    } else {
+        uint32_t place = rnd(some ? (uint32_t)p->count : WAITING_MAX);
+        damage_slot(p->slots + PANEL_SLOT_BYTES * place);
     }
 }

@@ -2,7 +2,7 @@
 #ifndef RECORDS_H
 #define RECORDS_H
 
-#include "panel.h"
+#include "../include/panel.h"
 
 /* Any record with marks under high, garbage behind the list and the frames. */
 void random_panel(Panel *p);

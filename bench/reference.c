@@ -1,6 +1,7 @@
 /* The hand-written side: frames, the record, settling and the four calls. */
 #include "reference.h"
 
+#include <endian.h>
 #include <stdbool.h>
 #include <string.h>
 
@@ -8,8 +9,9 @@ enum { HEAD = 18, DEFAULT_LIFETIME = 1200 };
 
 static uint32_t get32(const uint8_t *b)
 {
-    return (uint32_t)b[0] << 24 | (uint32_t)b[1] << 16 |
-           (uint32_t)b[2] << 8 | b[3];
+    uint32_t highest_first;
+    memcpy(&highest_first, b, sizeof highest_first);
+    return be32toh(highest_first);
 }
 
 static uint64_t get64(const uint8_t *b)
@@ -19,10 +21,8 @@ static uint64_t get64(const uint8_t *b)
 
 static void put32(uint8_t *b, uint32_t x)
 {
-    b[0] = (uint8_t)(x >> 24);
-    b[1] = (uint8_t)(x >> 16);
-    b[2] = (uint8_t)(x >> 8);
-    b[3] = (uint8_t)x;
+    uint32_t highest_first = htobe32(x);
+    memcpy(b, &highest_first, sizeof highest_first);
 }
 
 static void put64(uint8_t *b, uint64_t x)
@@ -38,8 +38,8 @@ static uint32_t larger(uint32_t a, uint32_t b)
 
 /* ---- Frames ---- */
 
-/* Checks a frame and, where m is given, fills it. */
-static inline uint8_t parse(const uint8_t *frame, size_t n, Message *m)
+/* The checks of the bytes in front of the entries, or 0. */
+static uint8_t head_number(const uint8_t *frame, size_t n)
 {
     static const uint8_t mark[3] = {0x44, 0x52, 0x59};
 
@@ -49,14 +49,21 @@ static inline uint8_t parse(const uint8_t *frame, size_t n, Message *m)
         return 2;
     if (frame[3] != 0 || frame[4] != 1)
         return 3;
-
-    uint8_t source = frame[5];
-    if (source >= PANELS)
+    if (frame[5] >= PANELS)
         return 4;
-    uint32_t deadline = get32(frame + 6);
-    if (deadline == 0)
+    if (get32(frame + 6) == 0)
         return 5;
+    return 0;
+}
 
+/* Checks a frame and, where m is given, fills it. */
+static inline uint8_t parse(const uint8_t *frame, size_t n, Message *m)
+{
+    uint8_t number = head_number(frame, n);
+    if (number != 0)
+        return number;
+
+    uint32_t deadline = get32(frame + 6);
     uint64_t mask = get64(frame + 10);
     size_t entries = (size_t)__builtin_popcountll(mask);
     size_t start = HEAD + 4 * entries + 1; /* of the payload */
@@ -79,7 +86,7 @@ static inline uint8_t parse(const uint8_t *frame, size_t n, Message *m)
         return 8;
 
     if (m) {
-        m->source = source;
+        m->source = frame[5];
         m->deadline = deadline;
         m->mask = mask;
         m->length = length;
@@ -137,10 +144,10 @@ static bool sound(const Record *r)
     if (r->own >= PANELS || r->count > WAITING_MAX)
         return false;
 
-    uint32_t top = 0;
+    uint32_t above = 0;
     for (size_t s = 0; s < PANELS; s++)
-        top = larger(top, larger(r->marks[s], r->barrier[s]));
-    if (top > r->high)
+        above |= (r->marks[s] > r->high) | (r->barrier[s] > r->high);
+    if (above)
         return false;
 
     for (size_t i = 0; i < r->count; i++) {
@@ -194,40 +201,45 @@ static bool before(const Message *a, const Message *b)
     return a->source < b->source;
 }
 
+/* The place of the one to hand next of n messages, or n if none is ready. */
+static size_t choose(const Record *r, const Message *const *left, size_t n)
+{
+    size_t best = 0;
+    while (best < n && !ready(r, left[best]))
+        best++;
+    for (size_t i = best + 1; i < n; i++) {
+        if (before(left[i], left[best]) && ready(r, left[i]))
+            best = i;
+    }
+    return best;
+}
+
 /*
  * Settles, with `count` log records already written, and gives their new
- * number. A bit of `left` stands for a place whose message still waits; the
- * list is closed up once, at the end.
+ * number. The list is closed up once, at the end.
  */
 static size_t settle(Record *r, uint8_t *output, size_t count)
 {
-    uint32_t left = (uint32_t)(((uint64_t)1 << r->count) - 1);
-    size_t first = count;
+    const Message *left[WAITING_MAX]; /* those that still wait, in their order */
+    size_t n = r->count;
 
+    for (size_t i = 0; i < n; i++)
+        left[i] = &r->waiting[i];
     for (;;) {
-        const Message *best = NULL;
-        for (uint32_t rest = left; rest != 0; rest &= rest - 1) {
-            const Message *m = &r->waiting[__builtin_ctz(rest)];
-            if ((!best || before(m, best)) && ready(r, m))
-                best = m;
-        }
-        if (!best)
+        size_t best = choose(r, left, n);
+        if (best == n)
             break;
-        hand(r, best, output + LOG_RECORD * count);
+        hand(r, left[best], output + LOG_RECORD * count);
         count++;
-        left &= ~((uint32_t)1 << (best - r->waiting));
+        n--;
+        memmove(left + best, left + best + 1, (n - best) * sizeof left[0]);
     }
 
-    if (count != first) {
-        size_t kept = 0;
-        for (; left != 0; left &= left - 1) {
-            size_t i = (size_t)__builtin_ctz(left);
-            if (i != kept)
-                r->waiting[kept] = r->waiting[i];
-            kept++;
-        }
-        r->count = kept;
+    for (size_t i = 0; i < n; i++) {
+        if (left[i] != &r->waiting[i])
+            r->waiting[i] = *left[i];
     }
+    r->count = n;
     return count;
 }
 
@@ -242,17 +254,35 @@ uint8_t c_fresh(Record *r, uint8_t own)
     return 0;
 }
 
-uint8_t c_send(Record *r, const uint8_t *payload, size_t n, uint16_t lifetime,
-               uint8_t *output, size_t out_n, uint8_t *buffer, size_t buf_n,
-               size_t *count, size_t *length)
+/* The message that a send makes, with the barrier entries as they are. */
+static void compose(const Record *r, Slice payload, uint32_t deadline,
+                    Message *m)
 {
-    *count = 0;
-    *length = 0;
+    uint64_t mask = 0;
+    size_t entries = 0;
+
+    for (size_t s = 0; s < PANELS; s++) {
+        if (r->barrier[s] != 0) {
+            mask |= (uint64_t)1 << s;
+            m->entries[entries++] = r->barrier[s];
+        }
+    }
+    m->source = r->own;
+    m->deadline = deadline;
+    m->mask = mask;
+    m->length = (uint8_t)payload.n;
+    memcpy(m->payload, payload.bytes, payload.n);
+}
+
+uint8_t c_send(Record *r, Slice payload, uint16_t lifetime, Buffer output,
+               Buffer buffer, Written *written)
+{
+    *written = (Written){0, 0};
     if (!sound(r))
         return 26;
-    if (out_n < OUTPUT_MIN || buf_n < FRAME_MAX)
+    if (output.n < OUTPUT_MIN || buffer.n < FRAME_MAX)
         return 10;
-    if (n > PAYLOAD_MAX)
+    if (payload.n > PAYLOAD_MAX)
         return 9;
 
     uint64_t deadline = (uint64_t)r->time + (lifetime ? lifetime : DEFAULT_LIFETIME);
@@ -262,37 +292,24 @@ uint8_t c_send(Record *r, const uint8_t *payload, size_t n, uint16_t lifetime,
         return 24;
 
     Message m;
-    m.source = r->own;
-    m.deadline = (uint32_t)deadline;
-    m.length = (uint8_t)n;
-    memcpy(m.payload, payload, n);
-    m.mask = 0;
-    size_t entries = 0;
-    for (size_t s = 0; s < PANELS; s++) {
-        if (r->barrier[s] != 0) {
-            m.mask |= (uint64_t)1 << s;
-            m.entries[entries++] = r->barrier[s];
-        }
-    }
-    *length = c_frame_write(&m, buffer);
-
+    compose(r, payload, (uint32_t)deadline, &m);
+    written->length = c_frame_write(&m, buffer.bytes);
     memset(r->barrier, 0, sizeof r->barrier);
-    hand(r, &m, output);
-    *count = settle(r, output, 1);
+    hand(r, &m, output.bytes);
+    written->count = settle(r, output.bytes, 1);
     return 0;
 }
 
-uint8_t c_receive(Record *r, const uint8_t *frame, size_t n,
-                  uint8_t *output, size_t out_n, size_t *count)
+uint8_t c_receive(Record *r, Slice frame, Buffer output, Written *written)
 {
-    *count = 0;
+    *written = (Written){0, 0};
     if (!sound(r))
         return 26;
-    if (out_n < OUTPUT_MIN)
+    if (output.n < OUTPUT_MIN)
         return 10;
 
     Message m;
-    uint8_t number = c_frame_read(frame, n, &m);
+    uint8_t number = c_frame_read(frame.bytes, frame.n, &m);
     if (number != 0)
         return number;
     if (m.source == r->own)
@@ -304,24 +321,23 @@ uint8_t c_receive(Record *r, const uint8_t *frame, size_t n,
 
     size_t handed = 0;
     if (ready(r, &m)) {
-        hand(r, &m, output);
+        hand(r, &m, output.bytes);
         handed = 1;
     } else {
         if (r->count == WAITING_MAX)
             return 23;
         r->waiting[r->count++] = m;
     }
-    *count = settle(r, output, handed);
+    written->count = settle(r, output.bytes, handed);
     return 0;
 }
 
-uint8_t c_clock(Record *r, uint32_t time, uint8_t *output, size_t out_n,
-                size_t *count)
+uint8_t c_clock(Record *r, uint32_t time, Buffer output, Written *written)
 {
-    *count = 0;
+    *written = (Written){0, 0};
     if (!sound(r))
         return 26;
-    if (out_n < OUTPUT_MIN)
+    if (output.n < OUTPUT_MIN)
         return 10;
     if (time < r->time)
         return 25;
@@ -336,6 +352,6 @@ uint8_t c_clock(Record *r, uint32_t time, uint8_t *output, size_t out_n,
         kept++;
     }
     r->count = kept;
-    *count = settle(r, output, 0);
+    written->count = settle(r, output.bytes, 0);
     return 0;
 }

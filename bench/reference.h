@@ -39,14 +39,28 @@ typedef struct {
     Message waiting[WAITING_MAX]; /* in the order taken */
 } Record;
 
+/* Bytes lent to a call: some that it reads, or a buffer that it writes to. */
+typedef struct {
+    const uint8_t *bytes;
+    size_t n;
+} Slice;
+
+typedef struct {
+    uint8_t *bytes;
+    size_t n;
+} Buffer;
+
+/* What a call wrote: log records to the output, a frame to its buffer. */
+typedef struct {
+    size_t count;
+    size_t length;
+} Written;
+
 uint8_t c_fresh(Record *r, uint8_t own);
-uint8_t c_send(Record *r, const uint8_t *payload, size_t n, uint16_t lifetime,
-               uint8_t *output, size_t out_n, uint8_t *buffer, size_t buf_n,
-               size_t *count, size_t *length);
-uint8_t c_receive(Record *r, const uint8_t *frame, size_t n,
-                  uint8_t *output, size_t out_n, size_t *count);
-uint8_t c_clock(Record *r, uint32_t time, uint8_t *output, size_t out_n,
-                size_t *count);
+uint8_t c_send(Record *r, Slice payload, uint16_t lifetime, Buffer output,
+               Buffer buffer, Written *written);
+uint8_t c_receive(Record *r, Slice frame, Buffer output, Written *written);
+uint8_t c_clock(Record *r, uint32_t time, Buffer output, Written *written);
 
 /* The refusal number of reading a frame, or 0. */
 uint8_t c_frame_check(const uint8_t *frame, size_t n);

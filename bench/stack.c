@@ -1,67 +1,25 @@
 /* Stack that a call of each side uses, measured on a painted thread. */
 #include "parts.h"
 
-#include "case.h"
-#include "convert.h"
+#include "rows.h"
 
 #include <pthread.h>
 #include <stdio.h>
 #include <stdlib.h>
 #include <sys/mman.h>
 
-enum { STACK = 4 << 20, STACK_MARGIN = 256, PAINT = 0x5A };
+/* ---- One call on a thread of its own ---- */
 
-static Sent sent;
-static Received received;
-static Clocked clocked;
-static Record worked;
-static size_t handed_now;
+enum { STACK = 1 << 20, PAINT = 0x5A };
 
-static __attribute__((noinline)) void stack_send(void)
-{
-    sent = panel_send(now.panel, now.bytes, now.n, now.lifetime, out_proved,
-                      now.out_n, buf_proved, FRAME_MAX);
-    handed_now = sent.count;
-}
-
-static __attribute__((noinline)) void stack_receive(void)
-{
-    received = panel_receive(now.panel, now.bytes, now.n, out_proved, now.out_n);
-    handed_now = received.count;
-}
-
-static __attribute__((noinline)) void stack_clock(void)
-{
-    clocked = panel_clock(now.panel, now.time, out_proved, now.out_n);
-    handed_now = clocked.count;
-}
-
-static __attribute__((noinline)) void stack_hollow(void)
-{
-    clocked = hollow(now.panel, now.time, out_proved, now.out_n);
-    handed_now = clocked.count;
-}
-
-static __attribute__((noinline)) void stack_c(void)
-{
-    size_t length;
-    worked = now.record;
-    if (now.kind == SEND)
-        c_send(&worked, now.bytes, now.n, now.lifetime, out_c, now.out_n, buf_c,
-               FRAME_MAX, &handed_now, &length);
-    else if (now.kind == RECEIVE)
-        c_receive(&worked, now.bytes, now.n, out_c, now.out_n, &handed_now);
-    else
-        c_clock(&worked, now.time, out_c, now.out_n, &handed_now);
-}
-
-static void stack_empty(void)
-{
-}
-
-static void (*volatile on_stack)(void);
+static Side *volatile on_stack;
 static uint8_t *stack_bottom;
 static size_t stack_depth;
+
+static void empty_side(long times)
+{
+    (void)times;
+}
 
 /*
  * Paints what lies below the own frame, makes the call and looks how deep the
@@ -69,21 +27,20 @@ static size_t stack_depth;
  */
 static void *thread(void *unused)
 {
-    uint8_t *here = __builtin_frame_address(0);
-    volatile uint8_t *end = here - STACK_MARGIN;
-    volatile uint8_t *b;
+    volatile uint8_t *end, *b;
 
+    __asm__ volatile("mov %%rsp, %0" : "=r"(end));
     for (b = stack_bottom; b < end; b++)
         *b = PAINT;
-    on_stack();
+    on_stack(1);
     for (b = stack_bottom; b < end && *b == PAINT; b++)
         ;
-    stack_depth = (size_t)(here - b);
+    stack_depth = (size_t)(end - b);
     return unused;
 }
 
-/* Bytes of stack that a call on a thread of its own has written to. */
-static size_t stack_used(void (*call)(void))
+/* Bytes of stack that a side writes to. */
+static size_t depth(Side *side)
 {
     pthread_attr_t attributes;
     pthread_t id;
@@ -94,7 +51,7 @@ static size_t stack_used(void (*call)(void))
         perror("mmap");
         exit(1);
     }
-    on_stack = call;
+    on_stack = side;
     pthread_attr_init(&attributes);
     pthread_attr_setstack(&attributes, stack_bottom, STACK);
     if (pthread_create(&id, &attributes, thread, NULL) != 0) {
@@ -107,36 +64,54 @@ static size_t stack_used(void (*call)(void))
     return stack_depth;
 }
 
-static size_t stack_base;
+/* ---- The deepest of each call ---- */
 
-static void stack_row(const char *label, void (*call)(void))
+typedef struct {
+    char label[80];
+    size_t bytes;
+} Deepest;
+
+static Deepest proved[KINDS][2], c[KINDS][2]; /* accepted, refused */
+
+static void deepen(Deepest *deepest, Side *side, const char *label)
 {
-    record_of_panel(&now.panel, &now.record);
-    call(); /* so that the dynamic linker has done its part */
-    handed_now = 0;
-    double used = (double)stack_used(call) - (double)stack_base;
-    printf("%-44s %7.1f KB (%zu log records)\n", label, used / 1024, handed_now);
+    size_t empty_depth = depth(empty_side), all = depth(side);
+    size_t bytes = all < empty_depth ? 0 : all - empty_depth;
+
+    if (bytes > deepest->bytes || deepest->label[0] == 0) {
+        deepest->bytes = bytes;
+        snprintf(deepest->label, sizeof deepest->label, "%s", label);
+    }
+}
+
+static void stack_row(const char *label, const Sides *sides)
+{
+    int refused = answer.number != 0;
+    deepen(&proved[now.kind][refused], sides->proved, label);
+    if (sides->in_place)
+        deepen(&c[now.kind][refused], sides->in_place, label);
 }
 
 void stack_part(void)
 {
-    Message m = plain(62, 500, 32);
+    Deepest most = {"", 0};
 
-    printf("stack beyond that of an empty thread\n");
-    stack_base = stack_used(stack_empty);
-
-    chain(32);
-    to_clock(501);
-    stack_row("call by value that does nothing", stack_hollow);
-    stack_row("proved clock, settle of 32", stack_clock);
-    stack_row("C clock, settle of 32", stack_c);
-
-    chain(32);
-    to_receive(&m);
-    stack_row("proved receive, settle of 32", stack_receive);
-    stack_row("C receive, settle of 32", stack_c);
-
-    chain_and_send();
-    stack_row("proved send, settle of 32", stack_send);
-    stack_row("C send, settle of 32", stack_c);
+    each_row(stack_row);
+    printf("%-45s%9s%9s\n", "stack in bytes, deepest row of each call", "proved",
+           "in place");
+    for (int kind = 0; kind < KINDS; kind++) {
+        for (int refused = 0; refused < 2; refused++) {
+            const Deepest *p = &proved[kind][refused], *q = &c[kind][refused];
+            if (p->label[0] == 0)
+                continue;
+            printf("%-45s%9zu", p->label, p->bytes);
+            if (q->label[0] != 0)
+                printf("%9zu\n", q->bytes);
+            else
+                printf("%9s\n", "-");
+            if (p->bytes > most.bytes)
+                most = *p;
+        }
+    }
+    printf("largest of all: %zu bytes, %s\n", most.bytes, most.label);
 }

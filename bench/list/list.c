@@ -4,22 +4,27 @@
  */
 #include "../reference.h"
 
+#include <inttypes.h>
 #include <stdio.h>
 
 enum { BUNDLE_MAX = 65535 };
 
 static void print_log(const uint8_t *output, size_t count)
 {
+    static const char digits[] = "0123456789abcdef";
+
     for (size_t i = 0; i < count; i++) {
         const uint8_t *r = output + LOG_RECORD * i;
         uint32_t deadline = (uint32_t)r[1] << 24 | (uint32_t)r[2] << 16 |
                             (uint32_t)r[3] << 8 | r[4];
-        printf("hand %u %lu ", r[0], (unsigned long)deadline);
-        if (r[5] == 0)
-            putchar('-');
-        for (size_t k = 0; k < r[5]; k++)
-            printf("%02x", r[6 + k]);
-        putchar('\n');
+        char payload[2 * PAYLOAD_MAX + 1];
+        size_t n = 0;
+        for (size_t k = 0; k < r[5]; k++) {
+            payload[n++] = digits[r[6 + k] >> 4];
+            payload[n++] = digits[r[6 + k] & 15];
+        }
+        payload[n] = 0;
+        printf("hand %u %" PRIu32 " %s\n", r[0], deadline, n > 0 ? payload : "-");
     }
 }
 
@@ -41,14 +46,14 @@ int main(void)
         size_t length = (size_t)input[place] << 8 | input[place + 1];
         if (size - place - 2 < length)
             break;
-        size_t count;
-        uint8_t number = c_receive(&panel, input + place + 2, length, output,
-                                   sizeof output, &count);
+        Written written;
+        uint8_t number = c_receive(&panel, (Slice){input + place + 2, length},
+                                   (Buffer){output, sizeof output}, &written);
         if (number == 0)
             printf("frame %u taken\n", frame);
         else
             printf("frame %u %u\n", frame, number);
-        print_log(output, count);
+        print_log(output, written.count);
         place += 2 + length;
     }
     puts(place == size ? "end" : "broken");

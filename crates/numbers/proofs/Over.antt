@@ -1,11 +1,11 @@
 -- Laws of `over`: bytes put into a buffer, one part behind another. Assumes nothing.
-use mathlib.Core.Path.{_≡_, refl, sym, ap, _∙_}
+use mathlib.Core.Path.{_≡_, refl, sym, ap, ap₂, _∙_}
 use mathlib.Core.List.{List, [], _++_, append-assoc, append-nil}
 use Prim.Native.Nat.{ℕ, _+_, _≤_}
 use native.Mathlib.Nat.{add-zero}
 use native.Mathlib.Omega.{arith}
 use lib.ListN.{length, take, drop, length-append, length-take, length-drop, take-append-drop}
-use lib.Seq.{paste, take-at, drop-drop, take-length, length-take-le, drop-append-add}
+use lib.Seq.{paste, take-at, drop-at, drop-drop, take-length, length-take-le, drop-append-add}
 use Rattle.numbers.specs.Buffer.{over}
 
 -- nothing put
@@ -36,6 +36,25 @@ over-over buffer at xs behind ys e h =
     ∙ drop-drop (length ys) (at + length xs) buffer
     ∙ ap (λ (k : ℕ). drop k buffer) q in
     rw (t, d, append-assoc (take at buffer) xs ys)
+
+-- other bytes over the first of those put
+pub over-again : (buffer : List ℕ) (at : ℕ) (xs rest ys : List ℕ) → length ys ≡ length xs → at ≤ length buffer
+    → over (over buffer at (xs ++ rest)) at ys ≡ over buffer at (ys ++ rest)
+unfolding over
+over-again buffer at xs rest ys e h =
+    let front = take at buffer in
+    let n : length (take at buffer) ≡ at = length-take-le at buffer h in
+    let tail = drop (at + length (xs ++ rest)) buffer in
+    let t : take at (over buffer at (xs ++ rest)) ≡ take at buffer = ap (take at) (append-assoc front (xs ++ rest) tail) ∙ take-at front (xs ++ rest ++ tail) at n in
+    let d : drop (at + length ys) (over buffer at (xs ++ rest)) ≡ rest ++ drop (at + length (xs ++ rest)) buffer =
+    ap (λ (l : List ℕ). drop (at + length ys) (l ++ tail)) (sym (append-assoc front xs rest))
+    ∙ ap (drop (at + length ys)) (append-assoc (front ++ xs) rest tail)
+    ∙ drop-at (front ++ xs) (rest ++ tail) (at + length ys) (omega (arith, length-append front xs)) in
+    let q : at + length (xs ++ rest) ≡ at + length (ys ++ rest) = omega (arith, length-append xs rest, length-append ys rest) in
+    ap₂ (λ (l k : List ℕ). l ++ ys ++ k) t d
+    ∙ ap (λ (k : ℕ). front ++ ys ++ (rest ++ drop k buffer)) q
+    ∙ sym (append-assoc (front ++ ys) rest (drop (at + length (ys ++ rest)) buffer))
+    ∙ ap (λ (l : List ℕ). l ++ drop (at + length (ys ++ rest)) buffer) (append-assoc front ys rest)
 
 -- what was put is there
 pub take-over : (buffer bs : List ℕ) → take (length bs) (over buffer 0 bs) ≡ bs

@@ -1,5 +1,4 @@
 -- Laws of the calls: their checks, taking a message, and their answers.
-pub mod Largest
 pub mod Refusing
 pub mod MessageChecks
 pub mod Checking

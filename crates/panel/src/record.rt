@@ -1,5 +1,4 @@
 // Refusal 26.
-use settling::larger;
 use slots::all_read;
 ghost use mathlib.Core.Path.{_≡_};
 ghost use Prim.Native.Nat.{_+_};
@@ -9,18 +8,19 @@ ghost use Rattle.rules.specs.Refusals.{broken as isBroken};
 ghost use Rattle.slots.specs.Slots.{Slots};
 ghost use Rattle.panel.specs.Record.{recordWith};
 
-// Whether each number is at most the limit. It has no early end, so that the compiler can take many at a time.
+// Whether each number is at most the limit.
 fn each_at_most(numbers: &[u32; 64], limit: u32) -> bool
     requires { ⌜ length (now numbers) ≡ 64 ⌝ }
     ensures { λ r. ⌜ r ≡ eachBelow (limit + 1) (now (numbers .entry)) ⌝ }
 {
-    let mut largest = 0;
     let mut i = 64;
     while 0 < i {
         i -= 1;
-        largest = larger(largest, numbers[i]);
+        if limit < numbers[i] {
+            return false;
+        }
     }
-    largest <= limit
+    true
 }
 
 // Whether 26 applies.

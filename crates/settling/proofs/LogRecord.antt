@@ -1,14 +1,14 @@
 -- The fields of a log record: the payload as a part of its frame, and each field put into a buffer behind those before it. Assumes nothing.
-use mathlib.Core.Path.{_≡_, sym, ap, ap₂, _∙_}
+use mathlib.Core.Path.{_≡_, sym, ap, _∙_}
 use mathlib.Core.List.{List, _++_, append-assoc}
 use Prim.Native.Nat.{ℕ, _+_, _-_, _*_, _≤_}
 use native.Mathlib.Omega.{arith}
 use lib.ListN.{length, take, drop, replicate, length-append, length-drop, length-replicate, replicate-append-replicate}
-use lib.Seq.{take-all, take-at, drop-at, length-take-le}
+use lib.Seq.{take-all}
 use Rattle.numbers.specs.Numbers.{bigEndian}
 use Rattle.numbers.specs.Buffer.{over}
 use Rattle.numbers.proofs.BigEndian.{length-bigEndian}
-use Rattle.numbers.proofs.Over.{length-over, over-over}
+use Rattle.numbers.proofs.Over.{length-over, over-over, over-again}
 use Rattle.frame.specs.Message.{Message}
 use Rattle.frame.specs.Reading.{countIn, messageIn}
 use Rattle.rules.specs.Handing.{logRecord}
@@ -29,25 +29,6 @@ over-head buffer source deadline size =
     ap (λ (l : List ℕ). over l 5 (bigEndian 1 size))
     (over-over buffer 0 (bigEndian 1 source) 1 (bigEndian 4 deadline) (simp length-bigEndian) (omega arith))
     ∙ over-over buffer 0 (bigEndian 1 source ++ bigEndian 4 deadline) 5 (bigEndian 1 size) (simp (length-append, length-bigEndian)) (omega arith)
-
--- other bytes over the first of those put
-pub over-again : (buffer : List ℕ) (at : ℕ) (xs rest ys : List ℕ) → length ys ≡ length xs → at ≤ length buffer
-    → over (over buffer at (xs ++ rest)) at ys ≡ over buffer at (ys ++ rest)
-unfolding over
-over-again buffer at xs rest ys e h =
-    let front = take at buffer in
-    let n : length (take at buffer) ≡ at = length-take-le at buffer h in
-    let tail = drop (at + length (xs ++ rest)) buffer in
-    let t : take at (over buffer at (xs ++ rest)) ≡ take at buffer = ap (take at) (append-assoc front (xs ++ rest) tail) ∙ take-at front (xs ++ rest ++ tail) at n in
-    let d : drop (at + length ys) (over buffer at (xs ++ rest)) ≡ rest ++ drop (at + length (xs ++ rest)) buffer =
-    ap (λ (l : List ℕ). drop (at + length ys) (l ++ tail)) (sym (append-assoc front xs rest))
-    ∙ ap (drop (at + length ys)) (append-assoc (front ++ xs) rest tail)
-    ∙ drop-at (front ++ xs) (rest ++ tail) (at + length ys) (omega (arith, length-append front xs)) in
-    let q : at + length (xs ++ rest) ≡ at + length (ys ++ rest) = omega (arith, length-append xs rest, length-append ys rest) in
-    ap₂ (λ (l k : List ℕ). l ++ ys ++ k) t d
-    ∙ ap (λ (k : ℕ). front ++ ys ++ (rest ++ drop k buffer)) q
-    ∙ sym (append-assoc (front ++ ys) rest (drop (at + length (ys ++ rest)) buffer))
-    ∙ ap (λ (l : List ℕ). l ++ drop (at + length (ys ++ rest)) buffer) (append-assoc front ys rest)
 
 abbrev zeros : ℕ → List ℕ
 zeros n = replicate n 0

@@ -167,7 +167,7 @@ fn put_log_record(part: &mut [u8], frame: &[u8])
 }
 
 // The larger of two numbers.
-pub fn larger(a: u32, b: u32) -> u32
+fn larger(a: u32, b: u32) -> u32
     ensures { λ r. ⌜ r ≡ max a b ⌝ }
 {
     if b < a {

@@ -2,10 +2,10 @@
 use mathlib.Core.Path.{_≡_, sym, ap, _∙_}
 use mathlib.Core.Bool.{Bool, true, false, cond}
 use mathlib.Core.List.{List, []}
-use Prim.Native.Nat.{ℕ, _+_, _-_, _*_, _≤_, _<_}
+use Prim.Native.Nat.{ℕ, _+_, _*_, _≤_, _<_}
 use native.Mathlib.Nat.{lt-of-not-le, le-of-suc-le-suc}
 use native.Mathlib.Omega.{arith}
-use lib.ListN.{length, take, drop, length-take, length-drop}
+use lib.ListN.{length, take, drop}
 use lib.Dec.{ltb}
 use lib.Seq.{drop-drop, drop-at, take-add, take-take, length-take-le}
 use borrow.Author.Tests.{le-ltb, lt-ltb}
@@ -14,7 +14,7 @@ use Rattle.numbers.proofs.Bytes.{Bytes-drop, Bytes-take}
 use Rattle.numbers.proofs.NumberAt.{numberAt-drop}
 use Rattle.frame.proofs.Passed.{zero-passed}
 use Rattle.rules.specs.Sizes.{width, bufferLength}
-use Rattle.slots.specs.Slots.{slotLength, framed, frameAt, Slots, Reads}
+use Rattle.slots.specs.Slots.{slotLength, framed, frameAt, Reads, lengthAt, Fits}
 
 -- ---- by the length that stands before the frame
 
@@ -26,15 +26,11 @@ pub framed-short : (bs : List ℕ) → numberAt bs 0 2 ≤ bufferLength → fram
 unfolding framed
 framed-short bs h = rw (le-ltb bufferLength (numberAt bs 0 2) h)
 
--- the length in a slot
-abbrev pub lengthAt : List ℕ → ℕ → ℕ
-lengthAt slots slot = numberAt slots (slot * slotLength) 2
-
 pub frameAt-long : (slots : List ℕ) (slot : ℕ) → bufferLength < lengthAt slots slot → frameAt slots slot ≡ []
 unfolding frameAt
 frameAt-long slots slot h = framed-long (drop (slot * slotLength) slots) (rw (← numberAt-drop slots (slot * slotLength) 2) h)
 
-pub frameAt-short : (slots : List ℕ) (slot : ℕ) → lengthAt slots slot ≤ bufferLength
+pub frameAt-short : (slots : List ℕ) (slot : ℕ) → Fits slots slot
     → frameAt slots slot ≡ take (lengthAt slots slot) (drop (slot * slotLength + 2) slots)
 unfolding frameAt
 frameAt-short slots slot h =
@@ -42,9 +38,9 @@ frameAt-short slots slot h =
     let same = numberAt-drop slots at 2 in
     framed-short (drop at slots) (rw (← same) h) ∙ rw (← same, drop-drop 2 at slots)
 
--- a readable frame fits its slot
-pub reads-lengthAt : (slots : List ℕ) (slot : ℕ) → Reads (frameAt slots slot) → lengthAt slots slot ≤ bufferLength
-reads-lengthAt slots slot reads = le-of-suc-le-suc (lt-of-not-le (λ (long : bufferLength < lengthAt slots slot). too-short long))
+-- a slot has room for a readable frame
+pub reads-fits : (slots : List ℕ) (slot : ℕ) → Reads (frameAt slots slot) → Fits slots slot
+reads-fits slots slot reads = le-of-suc-le-suc (lt-of-not-le (λ (long : bufferLength < lengthAt slots slot). too-short long))
   where
     too-short : bufferLength < lengthAt slots slot → ⊥
     too-short long = omega (arith, ap length (frameAt-long slots slot long), zero-passed width (frameAt slots slot) reads .long)

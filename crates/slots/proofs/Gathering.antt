@@ -11,8 +11,8 @@ use Rattle.numbers.specs.Numbers.{numberAt}
 use Rattle.numbers.specs.Buffer.{over}
 use Rattle.numbers.proofs.NumberAt.{numberAt-drop}
 use Rattle.numbers.proofs.Over.{length-over}
-use Rattle.slots.specs.Slots.{slotLength, Slots, Reads, Listed, frameAt}
-use Rattle.slots.proofs.Framed.{lengthAt, reads-lengthAt, numberAt-take}
+use Rattle.slots.specs.Slots.{slotLength, Slots, Reads, Listed, frameAt, lengthAt}
+use Rattle.slots.proofs.Framed.{reads-fits, numberAt-take}
 use Rattle.slots.proofs.Writing.{frameAt-before, frameAt-behind, frameAt-here, framed-slot}
 
 -- the first slots hold the frames of the places, and the others their own
@@ -66,7 +66,7 @@ module _ (before places : List ℕ) (slot count : ℕ) (slots : List ℕ) (movin
   pub moving-moves : slot < place → Moving before places (suc slot) (over slots (slot * slotLength) bytes)
   moving-moves up =
       let n = 2 + lengthAt slots place in
-      let short = reads-lengthAt slots place reads-place in
+      let short = reads-fits slots place reads-place in
       let low = listed .below slot lt in
       let size = moving .size in
       let length-bytes : length bytes ≡ 2 + lengthAt slots place
@@ -77,5 +77,5 @@ module _ (before places : List ℕ) (slot count : ℕ) (slots : List ℕ) (movin
       one-more (over slots (slot * slotLength) bytes)
       (length-over slots (slot * slotLength) bytes room ∙ size)
       (frameAt-here slots (slot * slotLength) bytes room slot refl (omega (arith, length-bytes, number)) ∙ framed-slot slots place (omega arith))
-      (λ k l. frameAt-before slots (slot * slotLength) bytes room k (omega arith) (reads-lengthAt slots k (reads-moved k l)))
+      (λ k l. frameAt-before slots (slot * slotLength) bytes room k (omega arith) (reads-fits slots k (reads-moved k l)))
       (λ k l. frameAt-behind slots (slot * slotLength) bytes room k (omega arith))

@@ -21,7 +21,7 @@ use Rattle.rules.specs.Sizes.{width, bufferLength}
 use Rattle.rules.specs.Refusals.{eachReadable}
 use Rattle.slots.specs.Slots.{slotLength, Slots, Reads, Kept, Listed, frameAt, carried, held, upFrom, firstSlots}
 use Rattle.slots.specs.Moves.{Gathered}
-use Rattle.slots.proofs.Framed.{reads-lengthAt}
+use Rattle.slots.proofs.Framed.{reads-fits}
 use Rattle.slots.proofs.Writing.{frameAt-before, frameAt-here, framed-frame}
 use Rattle.slots.proofs.Held.{unreadable-carried, getD-upFrom, take-upFrom, length-upFrom, held-suc, held-same}
 
@@ -104,7 +104,7 @@ module _ (slots : List ℕ) (count : ℕ) (frame : List ℕ) (size : Slots slots
 
   frameAt-old : (k : ℕ) → k < count → frameAt withFrame k ≡ frameAt slots k
   unfolding bs
-  frameAt-old k lt = frameAt-before slots (count * slotLength) bs fits k (omega arith) (reads-lengthAt slots k (kept .reads k lt))
+  frameAt-old k lt = frameAt-before slots (count * slotLength) bs fits k (omega arith) (reads-fits slots k (kept .reads k lt))
 
   pub slots-put : Slots withFrame
   unfolding bs

@@ -11,8 +11,8 @@ use Rattle.numbers.proofs.BigEndian.{length-bigEndian}
 use Rattle.numbers.proofs.NumberAt.{numberAt-drop, numberAt-bigEndian}
 use Rattle.numbers.proofs.Over.{length-over}
 use Rattle.rules.specs.Sizes.{bufferLength}
-use Rattle.slots.specs.Slots.{slotLength, framed, frameAt}
-use Rattle.slots.proofs.Framed.{lengthAt, framed-short, framed-same, drop-take}
+use Rattle.slots.specs.Slots.{slotLength, framed, frameAt, lengthAt}
+use Rattle.slots.proofs.Framed.{framed-short, framed-same, drop-take}
 
 -- ---- bytes that are moved to a place before them
 

@@ -58,6 +58,13 @@ Slots slots = length slots ≡ slotsLength
 abbrev pub Reads : List ℕ → Type 0
 Reads bs = refusal width bs ≡ 0
 
+-- the length in a slot, and that the slot has room for a frame of that length
+abbrev pub lengthAt : List ℕ → ℕ → ℕ
+lengthAt slots slot = numberAt slots (slot * slotLength) 2
+
+abbrev pub Fits : List ℕ → ℕ → Type 0
+Fits slots slot = lengthAt slots slot ≤ bufferLength
+
 -- the first slots hold readable frames
 pub record Kept (slots : List ℕ) (count : ℕ) : Type 0 where
   pub few : count ≤ 32

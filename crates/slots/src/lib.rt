@@ -16,7 +16,7 @@ ghost use Rattle.numbers.specs.Buffer.{over};
 ghost use Rattle.frame.specs.Reading.{messageIn};
 ghost use Rattle.rules.specs.Refusals.{eachReadable};
 ghost use Rattle.rules.specs.Refusals.{isWaiting as waits};
-ghost use Rattle.slots.specs.Slots.{Reads, Slots, Kept, Listed, firstSlots, held};
+ghost use Rattle.slots.specs.Slots.{Reads, Slots, Fits, Kept, Listed, firstSlots, held};
 ghost use Rattle.slots.specs.Slots.{frameAt as frameIn};
 ghost use Rattle.slots.specs.Moves.{Alive, Gathered};
 
@@ -26,31 +26,27 @@ pub struct Places {
     pub slots: [u8; 32],
 }
 
-// The frame in a slot; the empty part where its length says more than a slot has room for.
-pub fn frame_at(slots: &[u8], slot: usize) -> &[u8]
-    requires { ⌜ Slots (now slots) × (slot < 32) ⌝ }
+// The frame in a slot that has room for it. The length is read only where it is asked for.
+pub fn kept_frame(slots: &[u8], slot: usize) -> &[u8]
+    requires { ⌜ Slots (now slots) × (slot < 32) × Fits (now slots) slot ⌝ }
     ensures { λ r. ⌜ now r ≡ frameIn (now (slots .entry)) slot ⌝ }
 {
     let at = slot * 309;
     let length = number_at(slots, at, 2) as usize;
-    if 307 < length {
-        return &slots[0..0];
-    }
     let start = at + 2;
     let end = start + length;
     &slots[start..end]
 }
 
-// The readable frame in a slot. Its length is looked at only by those who need it.
-pub fn kept_frame(slots: &[u8], slot: usize) -> &[u8]
-    requires { ⌜ Slots (now slots) × (slot < 32) × Reads (frameIn (now slots) slot) ⌝ }
+// The frame in a slot; the empty part where its length says more than a slot has room for.
+fn frame_at(slots: &[u8], slot: usize) -> &[u8]
+    requires { ⌜ Slots (now slots) × (slot < 32) ⌝ }
     ensures { λ r. ⌜ now r ≡ frameIn (now (slots .entry)) slot ⌝ }
 {
-    let at = slot * 309;
-    let length = number_at(slots, at, 2) as usize;
-    let start = at + 2;
-    let end = start + length;
-    &slots[start..end]
+    if 307 < number_at(slots, slot * 309, 2) {
+        return &slots[0..0];
+    }
+    kept_frame(slots, slot)
 }
 
 // The source and the deadline of a readable frame.

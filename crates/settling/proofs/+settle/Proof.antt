@@ -8,6 +8,7 @@ use borrow.Fn.Kinds.{In, Out}
 use borrow.Fn.PlainCycle.{Measures, is, falls, and}
 use lib.ListN.{length}
 use Rattle.frame.specs.Reading.{messageIn}
+use Rattle.slots.proofs.Framed.{reads-fits}
 use Rattle.slots.specs.Slots.{frameAt}
 use Rattle.settling.specs.Record.{Stage, stage}
 use Rattle.settling.proofs.Stages.{HandedAt, oneHanded, handed-at, settles-none, found-below, settles-some}
@@ -103,7 +104,7 @@ settle-kept-frame-requires t c κs =
     let leave = c .before .before in
     let b = leave .before .before in
     let listed = start t b .pre .1 .0 .1 in
-    rw (leave .leave .ensures .0) (start t b .pre .1 .0 .0, listed .below _ (below t b), listed .reads _ (below t b))
+    rw (leave .leave .ensures .0) (start t b .pre .1 .0 .0, listed .below _ (below t b), reads-fits _ _ (listed .reads _ (below t b)))
 
 settle-hand-requires : (t : ℕ) → settle-lts.Need-hand-requires (calls t) (settle-at t) settle.Post
 settle-hand-requires t c κs =

@@ -6,6 +6,7 @@ use borrow.Author.Tests.{not-true, not-false}
 use Rattle.frame.specs.Message.{Message}
 use Rattle.frame.specs.Reading.{messageIn}
 use Rattle.rules.specs.Panel.{ready}
+use Rattle.slots.proofs.Framed.{reads-fits}
 use Rattle.slots.specs.Slots.{frameAt}
 use Rattle.settling.specs.Record.{asking, goesBefore}
 use Rattle.settling.proofs.Choosing.{considered-later, considered-unready, considered-ready}
@@ -33,7 +34,7 @@ is-ready : (c : tie.After-ready) → let s = start (c .before .before .before) i
 is-ready c = rw (kept (c .before .before .before) .kept-frame .ensures) at (c .ready .ensures)
 
 kept-frame-requires : tie.Need-kept-frame-requires
-kept-frame-requires c κs = search needs
+kept-frame-requires c κs = let s = c .before in (s .pre .0, s .pre .1, reads-fits _ _ (s .pre .2))
 
 deadline-requires : tie.Need-deadline-requires
 deadline-requires c κs = rw (c .kept-frame .ensures) (c .before .before .pre .2)

@@ -5,6 +5,7 @@ use mathlib.Core.Logic.{⊎-elim}
 use native.Mathlib.Numerals.{add-one}
 use native.Mathlib.Omega.{arith}
 use lib.ListN.{length, length-set}
+use Rattle.slots.proofs.Framed.{reads-fits}
 use Rattle.slots.proofs.Collecting.{Chosen, chosen-none, chosen-lapsed, chosen-alive, chosen-all}
 use Rattle.slots.proofs.alive.Statement.{statement}
 use Rattle.slots.proofs.alive.Tie as tie
@@ -21,7 +22,7 @@ loop-holds c = (omega arith, chosen-none _ _ _, refl)
 kept-frame-requires : tie.Need-kept-frame-requires Inv-loop μ-loop
 kept-frame-requires c κs =
     let s = c .before .before .before in
-    (s .pre .0, omega (arith, s .pre .1 .few), s .pre .1 .reads (c .before .loop .slot) (omega arith))
+    (s .pre .0, omega (arith, s .pre .1 .few), reads-fits _ _ (s .pre .1 .reads (c .before .loop .slot) (omega arith)))
 
 deadline-requires : tie.Need-deadline-requires Inv-loop μ-loop
 deadline-requires c κs =

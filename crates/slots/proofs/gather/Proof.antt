@@ -4,7 +4,8 @@ use mathlib.Core.Logic.{⊎-elim}
 use native.Mathlib.Numerals.{add-one}
 use native.Mathlib.Omega.{arith}
 use lib.ListN.{getD}
-use Rattle.slots.proofs.Framed.{lengthAt, reads-lengthAt}
+use Rattle.slots.specs.Slots.{lengthAt}
+use Rattle.slots.proofs.Framed.{reads-fits}
 use Rattle.slots.proofs.Gathering.{Moving, moving-none, reads-place, moving-stays, moving-moves}
 use Rattle.slots.proofs.gather.Statement.{statement}
 use Rattle.slots.proofs.gather.Tie as tie
@@ -23,7 +24,7 @@ short : (c : tie.In-loop Inv-loop μ-loop) → lengthAt (c .before .loop .slots)
 short c =
     let s = c .before .before in
     let l = c .before .loop in
-    reads-lengthAt _ _ (reads-place (s .args .slots .now) (s .args .places .now) (l .slot) (s .args .count) (l .slots) (l .inv .1) (s .pre .1) (omega arith))
+    reads-fits _ _ (reads-place (s .args .slots .now) (s .args .places .now) (l .slot) (s .args .count) (l .slots) (l .inv .1) (s .pre .1) (omega arith))
 
 loop-holds : tie.Need-loop-holds Inv-loop μ-loop
 loop-holds c = (omega arith, moving-none _ _ (c .pre .0))

@@ -8,6 +8,7 @@ use native.Mathlib.Omega.{arith}
 use Rattle.frame.specs.Reading.{messageIn}
 use Rattle.rules.specs.Refusals.{isWaiting}
 use Rattle.slots.specs.Slots.{held, firstSlots}
+use Rattle.slots.proofs.Framed.{reads-fits}
 use Rattle.slots.proofs.Held.{between, between-all}
 use Rattle.slots.proofs.Tests.{isWaiting-at, isWaiting-end}
 use Rattle.slots.proofs.is_waiting.Statement.{statement}
@@ -34,7 +35,7 @@ loop-holds c =
 kept-frame-requires : tie.Need-kept-frame-requires Inv-loop μ-loop
 kept-frame-requires c κs =
     let s = c .before .before .before .before .before .before in
-    (s .pre .1, omega (arith, s .pre .2 .few), s .pre .2 .reads (c .before .loop .slot) (omega arith))
+    (s .pre .1, omega (arith, s .pre .2 .few), reads-fits _ _ (s .pre .2 .reads (c .before .loop .slot) (omega arith)))
 
 is-named-requires : tie.Need-is-named-requires Inv-loop μ-loop
 is-named-requires c κs =

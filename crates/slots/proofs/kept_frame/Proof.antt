@@ -1,11 +1,11 @@
--- `slots::kept_frame` meets its contract: a readable frame fits its slot. Assumes nothing.
+-- `slots::kept_frame` meets its contract. Assumes nothing.
 use mathlib.Core.Path.{_≡_, sym, ap, _∙_}
 use Prim.Native.Nat.{ℕ, _+_, _*_, _-_, _≤_}
 use native.Mathlib.Omega.{arith}
 use borrow.Author.Needs.{needs}
 use lib.ListN.{take, drop}
 use Rattle.rules.specs.Sizes.{bufferLength}
-use Rattle.slots.proofs.Framed.{frameAt-short, reads-lengthAt}
+use Rattle.slots.proofs.Framed.{frameAt-short}
 use Rattle.slots.proofs.kept_frame.Statement.{statement}
 use Rattle.slots.proofs.kept_frame.Tie as tie
 
@@ -18,7 +18,7 @@ number-at-requires c κs = search needs
 fits : (c : tie.After-number-at) → c .number-at .result ≤ bufferLength
 fits c =
     let s = c .before .before in
-    omega (arith, c .number-at .ensures .0, reads-lengthAt _ _ (s .pre .2))
+    omega (arith, c .number-at .ensures .0, s .pre .2)
 
 add-start : tie.Need-add-start
 add-start c = search needs

@@ -4,16 +4,7 @@
 set -e
 cd "$(dirname "$0")/.."
 built=target/examples
-mkdir -p $built
-
-# Shows what a command prints only if it fails.
-quietly() {
-    "$@" >$built/log 2>&1 || {
-        status=$?
-        cat $built/log >&2
-        exit $status
-    }
-}
+. examples/archives.sh
 
 # run NAME PROGRAM: runs the program and compares its text with farm.txt.
 run() {
@@ -24,11 +15,8 @@ run() {
     }
 }
 
-quietly rt staticlib panel
-quietly rt staticlib frame
-
 ${CC:-gcc} -O2 -std=c11 -Wall -Wextra -Wpedantic -Wconversion -Werror -Iinclude \
-    -o $built/farm_c examples/farm.c target/staticlib/libpanel.a target/staticlib/libframe.a
+    -o $built/farm_c examples/farm.c $archives
 run C $built/farm_c
 
 cat examples/farm.txt

@@ -4,19 +4,7 @@
 set -e
 cd "$(dirname "$0")/.."
 built=target/tests
-mkdir -p $built
-
-# Shows what a command prints only if it fails.
-quietly() {
-    "$@" >$built/log 2>&1 || {
-        status=$?
-        cat $built/log >&2
-        exit $status
-    }
-}
-
-quietly rt staticlib panel
-quietly rt staticlib frame
+. examples/archives.sh
 
 cxx=${CXX:-g++}
 if command -v $cxx >/dev/null; then
@@ -26,5 +14,5 @@ else
 fi
 
 ${CC:-gcc} -O2 -std=c11 -Wall -Wextra -Wpedantic -Wconversion -Werror -Iinclude \
-    -o $built/calls tests/calls.c target/staticlib/libpanel.a target/staticlib/libframe.a
+    -o $built/calls tests/calls.c $archives
 exec $built/calls

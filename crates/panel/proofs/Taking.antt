@@ -3,7 +3,7 @@ use Prim.Native.Nat.{ℕ, zero, suc, _+_, _*_, _/_, _≤_, _<_, max}
 use native.Mathlib.Nat.{add-zero}
 use native.Mathlib.Numerals.{add-one}
 use native.Mathlib.Omega.{arith}
-use mathlib.Core.Path.{_≡_, sym, ap, _∙_, subst}
+use mathlib.Core.Path.{_≡_, sym, ap, _∙_}
 use mathlib.Core.Logic.{_⊎_, ⊎-elim}
 use mathlib.Core.Bool.{true, false, true≢false}
 use mathlib.Core.List.{List, [], _∷_, _++_, append-nil}
@@ -19,7 +19,7 @@ use Rattle.rules.specs.Sizes.{width, bufferLength}
 use Rattle.rules.specs.Panel.{Panel, ready}
 use Rattle.rules.specs.Handing.{raise, hand, logRecord, logRecords}
 use Rattle.rules.specs.Settling.{withWaiting}
-use Rattle.slots.specs.Slots.{slotLength, Reads, Slots, Kept, Listed, held, firstSlots}
+use Rattle.slots.specs.Slots.{slotLength, Reads, Slots, Kept, held, firstSlots}
 use Rattle.slots.proofs.Held.{carried-reads}
 use Rattle.slots.proofs.Kept.{listed-order, held-order, slots-put, held-put, kept-put}
 use Rattle.settling.specs.declared.Settling.{Settling}

@@ -78,9 +78,9 @@ pub extern "C" fn panel_send<'a, 'b, 'c>(
         };
     }
     let entries = p.barrier;
+    let mut barrier = [0u32; 64];
     let length = write(p.own, deadline as u32, entries, payload, buffer);
     let mut marks = p.marks;
-    let mut barrier = [0u32; 64];
     let high = hand(
         p.high,
         0,

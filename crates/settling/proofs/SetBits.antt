@@ -1,7 +1,7 @@
 -- A mask from set bit to set bit: the next is at `trailingZeros` of what is left, none before it is counted, and `bits & (bits - 1)` is left
 -- behind it. Assumes nothing.
 use mathlib.Core.Path.{_≡_, refl, sym, ap, _∙_}
-use Prim.Native.Nat.{ℕ, zero, suc, _+_, _-_, _*_, _/_, _%_, _^_, _≤_, _<_, min}
+use Prim.Native.Nat.{ℕ, zero, suc, _+_, _-_, _*_, _/_, _%_, _^_, _≤_, _<_}
 use native.Mathlib.Nat.{div-one, mul-one, mul-assoc, pow-suc, zero-add, suc-add, add-zero, zero-min, min-zero, zero-mul, div-eq-of-lt, lt-of-not-le, lt-of-lt-of-le, lt-of-le-of-lt}
 use native.Mathlib.Numerals.{add-one}
 use native.Mathlib.Omega.{arith}

@@ -1,12 +1,10 @@
 -- `settling::settle` meets its contract, by recursion on the number of those waiting. Assumes nothing.
-use mathlib.Core.Path.{_≡_, sym, ap, _∙_}
+use mathlib.Core.Path.{sym, ap, _∙_}
 use Prim.Native.Nat.{ℕ, _<_}
 use native.Mathlib.Omega.{arith}
-use borrow.Author.Needs.{needs}
 use borrow.Author.Tests.{not-true, not-false}
 use borrow.Fn.Kinds.{In, Out}
 use borrow.Fn.PlainCycle.{Measures, is, falls, and}
-use lib.ListN.{length}
 use Rattle.frame.specs.Reading.{messageIn}
 use Rattle.slots.proofs.Framed.{reads-fits}
 use Rattle.slots.specs.Slots.{frameAt}

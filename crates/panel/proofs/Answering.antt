@@ -1,5 +1,5 @@
 -- The answers of the calls: turned down, or done. Assumes nothing.
-use mathlib.Core.Path.{_≡_, refl, sym, ap, _∙_}
+use mathlib.Core.Path.{_≡_, refl, sym, ap, ap₂, _∙_}
 use mathlib.Core.List.{List, [], _∷_, _++_, append-assoc}
 use Prim.Native.Nat.{ℕ, _+_, _*_}
 use native.Mathlib.Omega.{arith}
@@ -11,7 +11,7 @@ use Rattle.frame.specs.Refusal.{firstOf}
 use Rattle.rules.specs.Sizes.{logRecordLength}
 use Rattle.rules.specs.Panel.{Panel as Record}
 use Rattle.rules.specs.Handing.{logRecords}
-use Rattle.rules.specs.Settling.{Settled, settle}
+use Rattle.rules.specs.Settling.{Settled, settle, withWaiting}
 use Rattle.rules.specs.Results.{Call, checksOf, effectOf, frameOf, outputOf, bufferOf, refused, done, unless, defined, Promised}
 use Rattle.rules.proofs.Checks.{Valid, true-eachReadable}
 use Rattle.rules.proofs.Settling.{settle-settles}
@@ -24,6 +24,7 @@ use Rattle.slots.proofs.Kept.{kept-readable, held-gathered}
 use Rattle.settling.specs.Record.{Stage, stage, panelAt, outputPlace, Settles}
 use Rattle.settling.specs.declared.Settling.{Settling}
 use Rattle.panel.specs.Record.{recordWith, recordOf}
+use Rattle.panel.specs.Steps.{SettlesSlots}
 use Rattle.panel.specs.declared.Panel.{Panel}
 
 -- ---- turned down
@@ -42,16 +43,23 @@ valid-kept p valid =
     kept-readable (p .slots) (p .count) (omega (arith, valid .count, length-firstSlots (p .slots) (p .count)))
     (true-eachReadable (held (p .slots) (firstSlots (p .count))) (valid .waiting))
 
--- the record given back: the frames in the slots listed have moved up to the first slots
-pub gathered-record : (slots : List ℕ) (begun : Stage) (s : Settling) (places marks barrier output after : List ℕ)
+-- the record has settled, and the frames in the slots listed have moved up to the first slots
+pub settles-slots : (slots : List ℕ) (begun : Stage) (s : Settling) (places marks barrier output after : List ℕ)
     → Settles slots begun (stage s places marks barrier output) → length (begun .places) ≡ 32 → Gathered slots places (s .waiting) after
-    → (own time : ℕ) → begun .left .own ≡ own → begun .left .time ≡ time
-    → recordWith own time (s .high) marks barrier after (s .waiting) ≡ panelAt slots (stage s places marks barrier output)
-gathered-record slots begun s places marks barrier output after settles long gathered own time same-own same-time =
+    → SettlesSlots slots begun after (stage s (firstSlots 32) marks barrier output)
+settles-slots slots begun s places marks barrier output after settles long gathered =
     let settled = settle-settles (panelAt slots begun) in
-    let kept-own : s .own ≡ own = ap (λ (p : Record). p .own) (settles .panel) ∙ settled .own ∙ same-own in
-    let kept-time : s .time ≡ time = ap (λ (p : Record). p .time) (settles .panel) ∙ settled .time ∙ same-time in
-    rw (← kept-own, ← kept-time, held-gathered slots places (s .waiting) after (omega (arith, settles .listed .few, settles .long)) gathered)
+    let own : s .own ≡ begun .left .own = ap (λ (p : Record). p .own) (settles .panel) ∙ settled .own in
+    let time : s .time ≡ begun .left .time = ap (λ (p : Record). p .time) (settles .panel) ∙ settled .time in
+    let held-now = held-gathered slots places (s .waiting) after (omega (arith, settles .listed .few, settles .long)) gathered in
+    record {
+      panel =
+          ap₂ (λ (o t : ℕ). recordWith o t (s .high) marks barrier after (s .waiting)) (sym own) (sym time)
+          ∙ ap (withWaiting (panelAt slots (stage s places marks barrier output))) held-now
+          ∙ settles .panel;
+      output = settles .output;
+      handed = settles .handed;
+    }
 
 logRecords-append : (ms more : List Message) → logRecords (ms ++ more) ≡ logRecords ms ++ logRecords more
 unfolding logRecords
@@ -63,11 +71,11 @@ abbrev pub afterwards : List Message → Settled → Settled
 afterwards before rest = record { panel = rest .panel; handed = before ++ rest .handed }
 
 -- A call that no check turns down, and whose effect is to hand some messages and then to settle, keeps its promise.
-module _ (p : Record) (call : Call) (passed : firstOf (checksOf p call) ≡ 0) (slots : List ℕ) (before : List Message) (begun after : Stage)
-    (settles : Settles slots begun after) (effect : effectOf p call ≡ afterwards before (settle (panelAt slots begun))) where
+module _ (p : Record) (call : Call) (passed : firstOf (checksOf p call) ≡ 0) (slots : List ℕ) (before : List Message) (begun : Stage)
+    (slots′ : List ℕ) (after : Stage) (settles : SettlesSlots slots begun slots′ after) (effect : effectOf p call ≡ afterwards before (settle (panelAt slots begun))) where
   pub settled-promised : begun .output ≡ over (outputOf call) 0 (logRecords before) → begun .left .handed ≡ length before
       → length (logRecords before) ≡ length before * logRecordLength
-      → (back : Record) (buffer : List ℕ) → back ≡ panelAt slots after → buffer ≡ over (bufferOf call) 0 (frameOf p call)
+      → (back : Record) (buffer : List ℕ) → back ≡ settle (panelAt slots begun) .panel → buffer ≡ over (bufferOf call) 0 (frameOf p call)
       → Promised p call
       (record {
         number = 0;
@@ -88,4 +96,4 @@ module _ (p : Record) (call : Call) (passed : firstOf (checksOf p call) ≡ 0) (
       ∙ over-over (outputOf call) 0 (logRecords before) (outputPlace (begun .left)) (logRecords rest)
       (omega (arith, size, ap (λ (n : ℕ). n * logRecordLength) counted)) (omega arith)
       ∙ ap (over (outputOf call) 0) (sym (logRecords-append before rest)) in
-      rw (given, settles .panel, count, output, filled, passed, effect)
+      rw (given, count, output, filled, passed, effect)

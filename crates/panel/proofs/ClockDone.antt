@@ -13,8 +13,9 @@ use Rattle.rules.specs.Results.{Promised, clock}
 use Rattle.slots.specs.Moves.{Alive}
 use Rattle.slots.specs.declared.Places.{Places}
 use Rattle.settling.specs.declared.Settling.{Settling}
-use Rattle.settling.specs.Record.{Stage, stage, panelAt, Settles}
+use Rattle.settling.specs.Record.{Stage, stage, panelAt}
 use Rattle.panel.specs.Record.{recordOf, clockedResult, GivenBack}
+use Rattle.panel.specs.Steps.{SettlesSlots}
 use Rattle.panel.specs.declared.Panel.{Panel}
 use Rattle.panel.proofs.Answering.{settled-promised}
 
@@ -29,13 +30,13 @@ module _ (p : Panel) (time : ℕ) (output : List ℕ) (kept : Places) (alive : A
   panel-begun : panelAt (p .slots) begunStage ≡ dropLapsed (withTime (recordOf p) time)
   panel-begun = ap (λ (ms : List Message). withWaiting (withTime (recordOf p) time) ms) (alive .messages (withTime (recordOf p) time) refl)
 
-  pub clocked-done : (after : Stage) (back : Panel) → firstOf (clockChecks (recordOf p) time output) ≡ 0 → Settles (p .slots) begunStage after
-      → recordOf back ≡ panelAt (p .slots) after
+  pub clocked-done : (slots : List ℕ) (after : Stage) (back : Panel) → firstOf (clockChecks (recordOf p) time output) ≡ 0
+      → SettlesSlots (p .slots) begunStage slots after → recordOf back ≡ settle (panelAt (p .slots) begunStage) .panel
       → Promised (recordOf p) (clock time output) (clockedResult (record { number = 0; count = after .left .handed; panel = back }) (after .output))
       × GivenBack 0 p back
   unfolding clocking logRecords
-  clocked-done after back passed settles e = (
-    settled-promised (recordOf p) (clock time output) passed (p .slots) [] begunStage after settles
+  clocked-done slots after back passed settles e = (
+    settled-promised (recordOf p) (clock time output) passed (p .slots) [] begunStage slots after settles
         (ap settle (sym panel-begun))
         (sym (over-nil output 0))
         refl

@@ -22,10 +22,10 @@ use Rattle.rules.proofs.Checks.{receive-passed}
 use Rattle.slots.specs.Slots.{Reads, Kept, held, firstSlots}
 use Rattle.slots.proofs.Held.{length-firstSlots}
 use Rattle.slots.proofs.Kept.{held-order}
-use Rattle.settling.specs.Record.{asking, Stage, stage, panelAt, Settles}
+use Rattle.settling.specs.Record.{asking, Stage, stage, panelAt}
 use Rattle.settling.proofs.Holding.{length-readable}
-use Rattle.panel.specs.Record.{recordOf, receivedResult, GivenBack}
-use Rattle.panel.specs.Steps.{taking, handedAtOnce, Taken}
+use Rattle.panel.specs.Record.{recordWith, recordOf, receivedResult, GivenBack}
+use Rattle.panel.specs.Steps.{taking, handedAtOnce, Taken, SettlesSlots}
 use Rattle.panel.specs.declared.Panel.{Panel}
 use Rattle.panel.proofs.MessageChecks.{ready-asking}
 use Rattle.panel.proofs.Answering.{afterwards, settled-promised}
@@ -59,10 +59,10 @@ taking-kept p m = go (ready p m)
     go false = (refl, refl)
 
 module _ {m : Message} {slots : List ℕ} {before : Stage} {after : List ℕ} {begun : Stage} (taken : Taken m slots before after begun) where
-  pub taken-own : begun .left .own ≡ before .left .own
+  taken-own : begun .left .own ≡ before .left .own
   taken-own = ap (λ (p : Record). p .own) (taken .panel) ∙ taking-kept (panelAt slots before) m .0
 
-  pub taken-time : begun .left .time ≡ before .left .time
+  taken-time : begun .left .time ≡ before .left .time
   taken-time = ap (λ (p : Record). p .time) (taken .panel) ∙ taking-kept (panelAt slots before) m .1
 
 -- the log record of a message that was handed at once, or none
@@ -82,15 +82,22 @@ room p bytes output passed =
     ⊎-elim (λ (l : length (held (p .slots) (firstSlots (p .count))) < 32). inl (omega (arith, length-firstSlots (p .slots) (p .count))))
     (λ r. inr (ready-asking (recordOf p) (messageIn width bytes) ∙ r)) (receive-passed (recordOf p) bytes output passed .room)
 
-module _ (p : Panel) (bytes output : List ℕ) (kept : Kept (p .slots) (p .count)) (reads : Reads bytes) (slots : List ℕ) (begun after : Stage)
-    (taken : Taken (messageIn width bytes) (p .slots) (begunStage p output) slots begun) (settles : Settles slots begun after) where
-  pub received-done : (back : Panel) → firstOf (receiveChecks (recordOf p) bytes output) ≡ 0 → recordOf back ≡ panelAt slots after
+module _ (p : Panel) (bytes output : List ℕ) (kept : Kept (p .slots) (p .count)) (reads : Reads bytes) (slots : List ℕ) (begun : Stage)
+    (taken : Taken (messageIn width bytes) (p .slots) (begunStage p output) slots begun)
+    (slots′ : List ℕ) (after : Stage) (settles : SettlesSlots slots begun slots′ after) where
+  -- the record given back has the own number and the time that it came with
+  given-back : recordWith (p .own) (p .time) (after .left .high) (after .marks) (after .barrier) slots′ (after .left .waiting)
+      ≡ settle (panelAt slots begun) .panel
+  given-back = rw (← taken-own taken, ← taken-time taken) (settles .panel)
+
+  pub received-done : (back : Panel) → firstOf (receiveChecks (recordOf p) bytes output) ≡ 0
+      → recordOf back ≡ recordWith (p .own) (p .time) (after .left .high) (after .marks) (after .barrier) slots′ (after .left .waiting)
       → Promised (recordOf p) (receive bytes output) (receivedResult (record { number = 0; count = after .left .handed; panel = back }) (after .output))
       × GivenBack 0 p back
   received-done back passed e =
       let m = messageIn width bytes in
       let same = panel-started p output kept in (
-        settled-promised (recordOf p) (receive bytes output) passed slots (handedAtOnce (recordOf p) m) begun after settles
+        settled-promised (recordOf p) (receive bytes output) passed slots (handedAtOnce (recordOf p) m) begun slots′ after settles
             (receiving-taking (recordOf p) m
             ∙ ap (λ (r : Record). afterwards (handedAtOnce (recordOf p) m) (settle r)) (sym (taken .panel ∙ ap (λ (r : Record). taking r m) same)))
             (rw same at (taken .output))
@@ -98,7 +105,7 @@ module _ (p : Panel) (bytes output : List ℕ) (kept : Kept (p .slots) (p .count
             (length-atOnce (recordOf p) bytes reads)
             (recordOf back)
             []
-            e
+            (e ∙ given-back)
             (sym (over-nil [] 0)),
         λ refuses. absurd (refuses refl),
       )

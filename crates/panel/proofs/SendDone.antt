@@ -27,8 +27,9 @@ use Rattle.rules.proofs.Checks.{SendPassed, send-passed, new-readable}
 use Rattle.rules.proofs.LogRecords.{length-logRecord}
 use Rattle.slots.specs.Slots.{Reads, Kept, firstSlots}
 use Rattle.slots.proofs.Kept.{held-order}
-use Rattle.settling.specs.Record.{Stage, stage, panelAt, Settles}
+use Rattle.settling.specs.Record.{Stage, stage, panelAt}
 use Rattle.panel.specs.Record.{recordOf, sentResult, GivenBack}
+use Rattle.panel.specs.Steps.{SettlesSlots}
 use Rattle.panel.specs.declared.Panel.{Panel}
 use Rattle.panel.proofs.Answering.{afterwards, settled-promised}
 
@@ -83,17 +84,17 @@ module _ {p : Panel} {payload : List ℕ} {lifetime : ℕ} {output buffer : List
   unfolding hand
   panel-handed kept = ap (λ (ms : List Message). withWaiting (hand (emptied (recordOf p)) new) ms) (held-order (p .slots) (p .count) (kept .few))
 
-  pub sent-done : Kept (p .slots) (p .count) → (after : Stage) (back : Panel) → Settles (p .slots) handedStage after
-      → recordOf back ≡ panelAt (p .slots) after
+  pub sent-done : Kept (p .slots) (p .count) → (slots : List ℕ) (after : Stage) (back : Panel) → SettlesSlots (p .slots) handedStage slots after
+      → recordOf back ≡ settle (panelAt (p .slots) handedStage) .panel
       → (size : ℕ) (filled : List ℕ) → size ≡ length (frame width new) → filled ≡ over buffer 0 (frame width new)
       → Promised (recordOf p) (send payload lifetime output buffer)
       (sentResult (record { number = 0; count = after .left .handed; length = size; panel = back }) (after .output) filled)
       × GivenBack 0 p back
   unfolding sending handAndSettle logRecords
-  sent-done kept after back settles e size filled same-size same-bytes =
+  sent-done kept slots after back settles e size filled same-size same-bytes =
       let one = ap (over output 0) (sym (append-nil (logRecord new))) in (
         rw same-size
-            (settled-promised (recordOf p) (send payload lifetime output buffer) (P .passed) (p .slots) (new ∷ []) handedStage after settles
+            (settled-promised (recordOf p) (send payload lifetime output buffer) (P .passed) (p .slots) (new ∷ []) handedStage slots after settles
             (ap (λ (r : Record). afterwards (new ∷ []) (settle r)) (sym (panel-handed kept)))
             one
             refl

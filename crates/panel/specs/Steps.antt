@@ -11,9 +11,10 @@ use Rattle.frame.specs.Reading.{checks}
 use Rattle.rules.specs.Sizes.{width, lastDeadline, outputLength, bufferLength}
 use Rattle.rules.specs.Panel.{Panel as Record, ready}
 use Rattle.rules.specs.Handing.{hand, logRecords}
-use Rattle.rules.specs.Settling.{withWaiting}
+use Rattle.rules.specs.Settling.{settle, withWaiting}
 use Rattle.slots.specs.Slots.{Slots, Listed}
 use Rattle.settling.specs.Record.{Stage, panelAt, outputPlace}
+use Rattle.panel.specs.Record.{recordWith}
 
 -- ---- the checks of each call on what they ask for (`sendChecks`, `receiveChecks` and `clockChecks` of the rules are these)
 
@@ -49,3 +50,10 @@ pub record Taken (m : Message) (slots : List ℕ) (before : Stage) (slots′ : L
   pub one-more : after .left .handed + after .left .waiting ≡ before .left .handed + before .left .waiting + 1
   pub listed : Listed slots′ (after .left .waiting) (after .places)
   pub size : Slots slots′
+
+-- the record has settled, and what still waits lies in the first slots
+pub record SettlesSlots (slots : List ℕ) (before : Stage) (slots′ : List ℕ) (after : Stage) : Type 0 where
+  pub panel : recordWith (before .left .own) (before .left .time) (after .left .high) (after .marks) (after .barrier) slots′ (after .left .waiting)
+      ≡ settle (panelAt slots before) .panel
+  pub output : after .output ≡ over (before .output) (outputPlace (before .left)) (logRecords (settle (panelAt slots before) .handed))
+  pub handed : after .left .handed ≡ before .left .handed + length (settle (panelAt slots before) .handed)

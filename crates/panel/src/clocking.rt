@@ -2,10 +2,9 @@
 use super::Clocked;
 use super::Panel;
 use super::record::broken;
+use super::record::settle_slots;
 use settling::Settling;
-use settling::settle;
 use slots::alive;
-use slots::gather;
 ghost use mathlib.Core.Path.{_≡_};
 ghost use Rattle.frame.specs.Refusal.{firstOf};
 ghost use Rattle.rules.specs.Results.{Promised, clock};
@@ -44,7 +43,7 @@ pub extern "C" fn panel_clock(mut p: Panel, time: u32, output: &mut [u8]) -> Clo
         };
     }
     let kept = alive(&p.slots, p.count, time);
-    let mut places = kept.slots;
+    let places = kept.slots;
     let mut marks = p.marks;
     let mut barrier = p.barrier;
     let begun = Settling {
@@ -54,15 +53,14 @@ pub extern "C" fn panel_clock(mut p: Panel, time: u32, output: &mut [u8]) -> Clo
         waiting: kept.count,
         handed: 0,
     };
-    let settled = settle(
+    let settled = settle_slots(
         begun,
-        &mut places,
+        places,
         &mut marks,
         &mut barrier,
-        &p.slots,
+        &mut p.slots,
         output,
     );
-    gather(&mut p.slots, &places, settled.waiting);
     p.time = time;
     p.high = settled.high;
     p.count = settled.waiting;

@@ -2,13 +2,12 @@
 use super::Panel;
 use super::Received;
 use super::record::broken;
+use super::record::settle_slots;
 use frame::frame_check;
 use settling::Settling;
 use settling::hand;
 use settling::ready;
-use settling::settle;
 use slots::deadline;
-use slots::gather;
 use slots::in_order;
 use slots::is_waiting;
 use slots::put_frame;
@@ -130,7 +129,6 @@ pub extern "C" fn panel_receive<'a, 'b>(
             panel: p,
         };
     }
-    let mut places = in_order();
     let mut marks = p.marks;
     let mut barrier = p.barrier;
     let begun = Settling {
@@ -141,15 +139,15 @@ pub extern "C" fn panel_receive<'a, 'b>(
         handed: 0,
     };
     let taken = take(begun, &mut marks, &mut barrier, &mut p.slots, frame, output);
-    let settled = settle(
+    let places = in_order();
+    let settled = settle_slots(
         taken,
-        &mut places,
+        places,
         &mut marks,
         &mut barrier,
-        &p.slots,
+        &mut p.slots,
         output,
     );
-    gather(&mut p.slots, &places, settled.waiting);
     p.high = settled.high;
     p.count = settled.waiting;
     p.marks = marks;

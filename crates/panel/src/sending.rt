@@ -2,11 +2,10 @@
 use super::Panel;
 use super::Sent;
 use super::record::broken;
+use super::record::settle_slots;
 use frame::write;
 use settling::Settling;
 use settling::hand;
-use settling::settle;
-use slots::gather;
 use slots::in_order;
 ghost use mathlib.Core.Path.{_≡_};
 ghost use mathlib.Core.List.{[]};
@@ -89,7 +88,7 @@ pub extern "C" fn panel_send<'a, 'b, 'c>(
         &buffer[0..length],
         output,
     );
-    let mut places = in_order();
+    let places = in_order();
     let begun = Settling {
         own: p.own,
         time: p.time,
@@ -97,15 +96,14 @@ pub extern "C" fn panel_send<'a, 'b, 'c>(
         waiting: p.count,
         handed: 1,
     };
-    let settled = settle(
+    let settled = settle_slots(
         begun,
-        &mut places,
+        places,
         &mut marks,
         &mut barrier,
-        &p.slots,
+        &mut p.slots,
         output,
     );
-    gather(&mut p.slots, &places, settled.waiting);
     p.high = settled.high;
     p.count = settled.waiting;
     p.marks = marks;

@@ -8,11 +8,12 @@ use Rattle.frame.specs.Refusal.{firstOf}
 use Rattle.rules.specs.Refusals.{broken, clockChecks}
 use Rattle.rules.specs.Results.{refused, clock}
 use Rattle.rules.proofs.Checks.{ClockPassed, clock-passed}
+use Rattle.slots.specs.Slots.{firstSlots}
 use Rattle.settling.specs.Record.{stage}
 use Rattle.panel.specs.Record.{recordOf}
 use Rattle.panel.specs.Steps.{clockChecksOn}
 use Rattle.panel.proofs.Checking.{clockChecks-on}
-use Rattle.panel.proofs.Answering.{refused-promised, valid-kept, gathered-record}
+use Rattle.panel.proofs.Answering.{refused-promised, valid-kept}
 use Rattle.panel.proofs.ClockDone.{clocked-done}
 use Rattle.panel.proofs.clocking.panel_clock.Statement.{statement}
 use Rattle.panel.proofs.clocking.panel_clock.Tie as tie
@@ -41,9 +42,6 @@ passed c = sym (numbered (c .before)) ∙ c .if1 .left
 checked : (c : tie.Else1) → ClockPassed (recordOf (back c .args .t1)) (back c .args .time) (back c .args .output .now)
 checked c = clock-passed (recordOf (back c .args .t1)) (back c .args .time) (back c .args .output .now) (passed c)
 
-long : (c : tie.After-alive) → length (c .alive .result .slots) ≡ 32
-long c = search needs
-
 broken-requires : tie.Need-broken-requires
 broken-requires c κs = search needs
 
@@ -57,29 +55,24 @@ returns c = (refused-promised _ (clock _ _) _ (numbered (c .before)) (c .if1 .ta
 alive-requires : tie.Need-alive-requires
 alive-requires c κs = (search needs, valid-kept _ (checked (c .before .before .before) .valid))
 
-settle-requires : tie.Need-settle-requires
-settle-requires c κs =
-    let kept = c .before .before .before .before .before .before .before .before .before .before in
+settle-slots-requires : tie.Need-settle-slots-requires
+settle-slots-requires c κs =
+    let kept = c .before .before .before .before .before .before .before in
     let listed = kept .alive .ensures .listed in
-    ((search needs, listed, long kept), omega (arith, listed .few, checked (kept .before .before .before .before) .output-room))
-
-gather-requires : tie.Need-gather-requires
-gather-requires c κs = search needs
+    ((search needs, listed), omega (arith, listed .few, checked (kept .before .before .before .before) .output-room))
 
 same-length : tie.Need-same-length
 same-length c = search needs
 
 returns-2 : tie.Need-returns-2
 returns-2 c =
-    let settled = c .before .before .before .before .before in
-    let kept = settled .before .before .before .before .before .before .before .before .before .before .before in
+    let settled = c .before .before in
+    let kept = settled .before .before .before .before .before .before .before .before in
     let past = kept .before .before .before .before in
     let a = back past .args in
-    let settle = settled .settle in
-    clocked-done (a .t1) (a .time) (a .output .now) _ (kept .alive .ensures)
-    (stage (settle .result) (settle .last .1 .0) (settle .last .1 .1 .0) (settle .last .1 .1 .1 .0) (settle .last .1 .1 .1 .1 .1 .0)) _ (passed past)
-    (settle .ensures)
-    (gathered-record _ _ (settle .result) _ _ _ _ _ (settle .ensures) (long kept) (c .gather .ensures) _ _ refl refl)
+    let s = settled .settle-slots in
+    clocked-done (a .t1) (a .time) (a .output .now) _ (kept .alive .ensures) (s .last .1 .1 .1 .1 .0)
+    (stage (s .result) (firstSlots 32) (s .last .1 .1 .0) (s .last .1 .1 .1 .0) (s .last .1 .1 .1 .1 .1 .0)) _ (passed past) (s .ensures) (s .ensures .panel)
 
 pub panel-clock-spec : {M : Type 1} → statement M
 panel-clock-spec =
@@ -89,7 +82,6 @@ panel-clock-spec =
     clock-number-requires
     returns
     alive-requires
-    settle-requires
-    gather-requires
+    settle-slots-requires
     same-length
     returns-2)

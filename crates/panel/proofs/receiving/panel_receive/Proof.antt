@@ -11,13 +11,13 @@ use Rattle.rules.specs.Panel.{met, lapsed, ready}
 use Rattle.rules.specs.Refusals.{broken, messageChecks, receiveChecks}
 use Rattle.rules.specs.Results.{refused, receive}
 use Rattle.rules.proofs.Checks.{ReceivePassed, receive-passed}
-use Rattle.slots.proofs.Held.{length-upFrom}
+use Rattle.slots.specs.Slots.{firstSlots}
 use Rattle.settling.specs.Record.{stage}
 use Rattle.panel.specs.Record.{recordOf}
 use Rattle.panel.specs.Steps.{frameChecksOn}
 use Rattle.panel.proofs.Checking.{frame-refused, frame-through, through-reads, through-valid}
-use Rattle.panel.proofs.Answering.{refused-promised, valid-kept, gathered-record}
-use Rattle.panel.proofs.ReceiveDone.{taken-own, taken-time, room, received-done}
+use Rattle.panel.proofs.Answering.{refused-promised, valid-kept}
+use Rattle.panel.proofs.ReceiveDone.{room, received-done}
 use Rattle.panel.proofs.receiving.panel_receive.Statement.{statement}
 use Rattle.panel.proofs.receiving.panel_receive.Tie as tie
 
@@ -54,9 +54,6 @@ checked : (c : tie.Else2) → let a = back c .args in
     ReceivePassed (recordOf (a .t1)) (a .frame .now) (a .output .now) (messageIn 4 (a .frame .now))
 checked c = let a = back c .args in receive-passed (recordOf (a .t1)) (a .frame .now) (a .output .now) (passed c)
 
-long : (c : tie.After-in-order) → length (c .in-order .result) ≡ 32
-long c = search needs
-
 broken-requires : tie.Need-broken-requires
 broken-requires c κs = search needs
 
@@ -77,48 +74,42 @@ returns : tie.Need-returns
 unfolding refused
 returns c = (refused-promised _ (receive _ _) _ (numbered (c .before)) (c .if2 .taken), λ _. refl)
 
-in-order-requires : tie.Need-in-order-requires
-in-order-requires c κs = search needs
-
 take-requires : tie.Need-take-requires
 take-requires c κs =
-    let past = c .before .before .before .before .before .before .before in
+    let past = c .before .before .before .before .before .before in
     let a = back past .args in (
       (checked past .read, search needs, valid-kept (a .t1) (checked past .valid)),
       (room (a .t1) _ _ (passed past), omega (arith, checked past .output-room)),
     )
 
-settle-requires : tie.Need-settle-requires
-settle-requires c κs =
-    let take = c .before .before .before .before .before .before .before .before .before in
-    let order = take .before .before .before .before .before .before .before in
-    let past = order .before in
+in-order-requires : tie.Need-in-order-requires
+in-order-requires c κs = search needs
+
+settle-slots-requires : tie.Need-settle-slots-requires
+settle-slots-requires c κs =
+    let order = c .before .before .before .before in
+    let take = order .before .before .before in
+    let past = take .before .before .before .before .before .before .before in
     let taken = take .take .ensures in
     let few = valid-kept _ (checked past .valid) .few in (
-      (taken .size, rw (order .in-order .ensures) (taken .listed), long order),
+      (taken .size, rw (order .in-order .ensures) (taken .listed)),
       omega (arith, taken .one-more, few, checked past .output-room, take .take .kept .1 .1 .1 .1 .1 .0),
     )
-
-gather-requires : tie.Need-gather-requires
-gather-requires c κs = search needs
 
 same-length : tie.Need-same-length
 same-length c = search needs
 
 returns-2 : tie.Need-returns-2
 returns-2 c =
-    let settled = c .before .before .before .before .before in
-    let take = settled .before .before .before .before .before .before .before .before .before .before in
-    let order = take .before .before .before .before .before .before .before in
-    let past = order .before in
+    let settled = c .before .before in
+    let order = settled .before .before .before .before .before in
+    let take = order .before .before .before in
+    let past = take .before .before .before .before .before .before .before in
     let a = back past .args in
-    let taken = take .take .ensures in
-    let settle = settled .settle in
-    let settles = rw (order .in-order .ensures) at (settle .ensures) in
-    received-done (a .t1) (a .frame .now) (a .output .now) (valid-kept (a .t1) (checked past .valid)) (checked past .read) _ _
-    (stage (settle .result) (settle .last .1 .0) (settle .last .1 .1 .0) (settle .last .1 .1 .1 .0) (settle .last .1 .1 .1 .1 .1 .0)) taken settles _
-    (passed past)
-    (gathered-record _ _ (settle .result) _ _ _ _ _ settles (length-upFrom 0 32) (c .gather .ensures) _ _ (taken-own taken) (taken-time taken))
+    let s = settled .settle-slots in
+    received-done (a .t1) (a .frame .now) (a .output .now) (valid-kept (a .t1) (checked past .valid)) (checked past .read) _ _ (take .take .ensures)
+    (s .last .1 .1 .1 .1 .0) (stage (s .result) (firstSlots 32) (s .last .1 .1 .0) (s .last .1 .1 .1 .0) (s .last .1 .1 .1 .1 .1 .0))
+    (rw (order .in-order .ensures) at (s .ensures)) _ (passed past) refl
 
 pub panel-receive-spec : {M : Type 1} → statement M
 panel-receive-spec =
@@ -128,9 +119,8 @@ panel-receive-spec =
     frame-number-requires
     message-number-requires
     returns
-    in-order-requires
     take-requires
-    settle-requires
-    gather-requires
+    in-order-requires
+    settle-slots-requires
     same-length
     returns-2)

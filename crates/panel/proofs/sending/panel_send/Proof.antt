@@ -16,13 +16,13 @@ use Rattle.rules.specs.Panel.{none64}
 use Rattle.rules.specs.Calls.{newMessage, sendDeadline}
 use Rattle.rules.specs.Refusals.{broken, sendChecks}
 use Rattle.rules.specs.Results.{refused, send}
-use Rattle.slots.proofs.Held.{length-upFrom}
+use Rattle.slots.specs.Slots.{Slots, firstSlots}
 use Rattle.slots.proofs.Kept.{listed-order}
 use Rattle.settling.specs.Record.{stage}
 use Rattle.panel.specs.Record.{recordOf}
 use Rattle.panel.specs.Steps.{sendChecksOn}
 use Rattle.panel.proofs.Checking.{sendChecks-on}
-use Rattle.panel.proofs.Answering.{refused-promised, valid-kept, gathered-record}
+use Rattle.panel.proofs.Answering.{refused-promised, valid-kept}
 use Rattle.panel.proofs.SendDone.{Passed, checked, frame-fits, length-written, buffer-written, frame-reads, stage-handed, sent-done}
 use Rattle.panel.proofs.sending.panel_send.Statement.{statement}
 use Rattle.panel.proofs.sending.panel_send.Tie as tie
@@ -44,8 +44,8 @@ payload-bytes c = λ i. omega (arith, c .shared-slice-known .given i)
 panels : (c : tie.Start) → length (c .args .t1 .barrier) ≡ 64
 panels c = search needs
 
-long : (c : tie.After-in-order) → length (c .in-order .result) ≡ 32
-long c = search needs
+all-slots : (c : tie.Start) → Slots (c .args .t1 .slots)
+all-slots c = search needs
 
 -- the deadline that the message would have
 due : (c : tie.After-send-deadline) → c .send-deadline .result ≡ sendDeadline (recordOf (start c .args .t1)) (start c .args .lifetime)
@@ -135,18 +135,16 @@ hand-requires c κs =
 in-order-requires : tie.Need-in-order-requires
 in-order-requires c κs = search needs
 
-settle-requires : tie.Need-settle-requires
-settle-requires c κs =
-    let order = c .before .before .before .before .before .before .before in
+settle-slots-requires : tie.Need-settle-slots-requires
+settle-slots-requires c κs =
+    let order = c .before .before .before .before in
     let hand = order .before .before .before in
-    let P = checked (passed (past (hand .before .before .before .before .before .before .before .before .before))) in
+    let write = hand .before .before .before .before .before .before .before .before .before in
+    let P = checked (passed (past write)) in
     let whole = valid-kept _ (P .valid) in (
-      (search needs, rw (order .in-order .ensures) (listed-order _ _ whole), long order),
+      (all-slots (back (past write)), rw (order .in-order .ensures) (listed-order _ _ whole)),
       omega (arith, whole .few, P .output-room, hand .hand .kept .1 .1 .1 .1 .1 .0),
     )
-
-gather-requires : tie.Need-gather-requires
-gather-requires c κs = search needs
 
 same-length : tie.Need-same-length
 same-length c = search needs
@@ -157,20 +155,19 @@ same-length-2 c = search needs
 returns-2 : tie.Need-returns-2
 unfolding none64
 returns-2 c =
-    let settled = c .before .before .before .before .before in
-    let order = settled .before .before .before .before .before .before .before .before in
+    let settled = c .before .before in
+    let order = settled .before .before .before .before .before in
     let hand = order .before .before .before in
     let write = hand .before .before .before .before .before .before .before .before .before in
     let P = passed (past write) in
     let handed = hand .hand in
-    let settle = settled .settle in
+    let s = settled .settle-slots in
     let stage-is = stage-handed P _ (part write) (handed .result) (order .in-order .result) (handed .last .1 .1 .0) (handed .last .1 .1 .1 .0)
     (handed .last .1 .1 .1 .1 .1 .0)
     (handed .ensures .0) (order .in-order .ensures) (handed .ensures .1) (handed .ensures .2) (handed .ensures .3) in
-    let settles = rw stage-is at (settle .ensures) in
-    sent-done P (valid-kept _ (checked P .valid))
-    (stage (settle .result) (settle .last .1 .0) (settle .last .1 .1 .0) (settle .last .1 .1 .1 .0) (settle .last .1 .1 .1 .1 .1 .0)) _ settles
-    (gathered-record _ _ (settle .result) _ _ _ _ _ settles (length-upFrom 0 32) (c .gather .ensures) _ _ refl refl)
+    let settles = rw stage-is at (s .ensures) in
+    sent-done P (valid-kept _ (checked P .valid)) (s .last .1 .1 .1 .1 .0)
+    (stage (s .result) (firstSlots 32) (s .last .1 .1 .0) (s .last .1 .1 .1 .0) (s .last .1 .1 .1 .1 .1 .0)) _ settles (settles .panel)
     _ _ (wrote write .0) (wrote write .1)
 
 pub panel-send-spec : {M : Type 1} → statement M
@@ -188,8 +185,7 @@ panel-send-spec =
     part-hand-end
     hand-requires
     in-order-requires
-    settle-requires
-    gather-requires
+    settle-slots-requires
     same-length
     same-length-2
     returns-2)

@@ -46,21 +46,14 @@ pub extern "C" fn panel_clock(mut p: Panel, time: u32, output: &mut [u8]) -> Clo
     let places = kept.slots;
     let mut marks = p.marks;
     let mut barrier = p.barrier;
-    let begun = Settling {
+    let left = Settling {
         own: p.own,
         time,
         high: p.high,
         waiting: kept.count,
         handed: 0,
     };
-    let settled = settle_slots(
-        begun,
-        places,
-        &mut marks,
-        &mut barrier,
-        &mut p.slots,
-        output,
-    );
+    let settled = settle_slots(left, places, &mut marks, &mut barrier, &mut p.slots, output);
     p.time = time;
     p.high = settled.high;
     p.count = settled.waiting;

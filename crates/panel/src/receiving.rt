@@ -138,16 +138,9 @@ pub extern "C" fn panel_receive<'a, 'b>(
         waiting: p.count,
         handed: 0,
     };
-    let taken = take(begun, &mut marks, &mut barrier, &mut p.slots, frame, output);
+    let left = take(begun, &mut marks, &mut barrier, &mut p.slots, frame, output);
     let places = in_order();
-    let settled = settle_slots(
-        taken,
-        places,
-        &mut marks,
-        &mut barrier,
-        &mut p.slots,
-        output,
-    );
+    let settled = settle_slots(left, places, &mut marks, &mut barrier, &mut p.slots, output);
     p.high = settled.high;
     p.count = settled.waiting;
     p.marks = marks;

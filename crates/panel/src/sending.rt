@@ -80,30 +80,17 @@ pub extern "C" fn panel_send<'a, 'b, 'c>(
     let mut barrier = [0u32; 64];
     let length = write(p.own, deadline as u32, entries, payload, buffer);
     let mut marks = p.marks;
-    let high = hand(
-        p.high,
-        0,
-        &mut marks,
-        &mut barrier,
-        &buffer[0..length],
-        output,
-    );
+    let frame = &buffer[0..length];
+    let high = hand(p.high, 0, &mut marks, &mut barrier, frame, output);
     let places = in_order();
-    let begun = Settling {
+    let left = Settling {
         own: p.own,
         time: p.time,
         high,
         waiting: p.count,
         handed: 1,
     };
-    let settled = settle_slots(
-        begun,
-        places,
-        &mut marks,
-        &mut barrier,
-        &mut p.slots,
-        output,
-    );
+    let settled = settle_slots(left, places, &mut marks, &mut barrier, &mut p.slots, output);
     p.high = settled.high;
     p.count = settled.waiting;
     p.marks = marks;

@@ -116,15 +116,15 @@ cast-write c = omega (arith, due (c .before .before .before), checked (passed (c
 write-requires : tie.Need-write-requires
 write-requires c κs = search needs
 
-sub-hand : tie.Need-sub-hand
-sub-hand c = search needs
+sub-frame : tie.Need-sub-frame
+sub-frame c = search needs
 
-part-hand-start : tie.Need-part-hand-start
-part-hand-start c = search needs
+part-frame-start : tie.Need-part-frame-start
+part-frame-start c = search needs
 
-part-hand-end : tie.Need-part-hand-end
-part-hand-end c =
-    let write = c .before .before .before .before .before .before in
+part-frame-end : tie.Need-part-frame-end
+part-frame-end c =
+    let write = c .before .before .before .before in
     omega (arith, wrote write .0, frame-fits (passed (past write)), write .write .kept .1 .1 .1 .1 .0)
 
 hand-requires : tie.Need-hand-requires
@@ -180,9 +180,9 @@ panel-send-spec =
     returns
     cast-write
     write-requires
-    sub-hand
-    part-hand-start
-    part-hand-end
+    sub-frame
+    part-frame-start
+    part-frame-end
     hand-requires
     in-order-requires
     settle-slots-requires

@@ -2,7 +2,7 @@
 use Prim.Native.Nat.{ℕ, suc, _≤_, _<_}
 use native.Mathlib.Omega.{arith}
 use mathlib.Core.Path.{_≡_, refl, sym, ap, _∙_}
-use mathlib.Core.Bool.{Bool, true, false, cond, _&&_, _||_, true≢false}
+use mathlib.Core.Bool.{Bool, true, false, cond, _&&_, _||_, true≢false, not}
 use mathlib.Core.Option.{Option, none, some}
 use mathlib.Core.List.{List, [], _∷_, _++_}
 use lib.ListN.{length, getD, take}
@@ -24,29 +24,36 @@ or-false true = refl
 or-false false = refl
 
 module _ (deadline source : ℕ) (first : First) where
-  pub goesBefore-none : first .found ≡ false → goesBefore deadline source first ≡ true
-  goesBefore-none e = rw e
+  pub goesBefore-deadline : (deadline ≡ first .deadline → ⊥) → goesBefore deadline source first ≡ ltb deadline (first .deadline)
+  goesBefore-deadline h = rw (ne-eqb deadline (first .deadline) h) (or-false (ltb deadline (first .deadline)))
 
-  pub goesBefore-deadline : first .found ≡ true → (deadline ≡ first .deadline → ⊥) → goesBefore deadline source first ≡ ltb deadline (first .deadline)
-  goesBefore-deadline e h = rw (e, ne-eqb deadline (first .deadline) h) (or-false (ltb deadline (first .deadline)))
-
-  pub goesBefore-source : first .found ≡ true → deadline ≡ first .deadline → goesBefore deadline source first ≡ ltb source (first .source)
-  goesBefore-source e h = rw (e, eq-eqb deadline (first .deadline) h, le-ltb deadline (first .deadline) (omega arith))
+  pub goesBefore-source : deadline ≡ first .deadline → goesBefore deadline source first ≡ ltb source (first .source)
+  goesBefore-source h = rw (eq-eqb deadline (first .deadline) h, le-ltb deadline (first .deadline) (omega arith))
 
 -- ---- one message more, behind those looked at
 
+-- the message would be the first: none was found, or it goes before the one found
+abbrev pub asFirst : Message → First → Bool
+asFirst m first = not (first .found) || goesBefore (m .deadline) (m .source) first
+
+pub asFirst-none : (m : Message) (first : First) → first .found ≡ false → asFirst m first ≡ true
+asFirst-none m first e = rw e
+
+pub asFirst-found : (m : Message) (first : First) → first .found ≡ true → asFirst m first ≡ goesBefore (m .deadline) (m .source) first
+asFirst-found m first e = rw e
+
 module _ (r : Bool) (place : ℕ) (m : Message) (first : First) where
-  pub considered-later : goesBefore (m .deadline) (m .source) first ≡ false → considered r place m first ≡ first
+  pub considered-later : asFirst m first ≡ false → considered r place m first ≡ first
   considered-later e = rw e
 
   pub considered-unready : r ≡ false → considered r place m first ≡ first
-  considered-unready e = rw e (go (goesBefore (m .deadline) (m .source) first))
+  considered-unready e = rw e (go (asFirst m first))
     where
       go : (b : Bool) → cond (b && false) (record { found = true; place = place; deadline = m .deadline; source = m .source }) first ≡ first
       go true = refl
       go false = refl
 
-  pub considered-ready : goesBefore (m .deadline) (m .source) first ≡ true → r ≡ true
+  pub considered-ready : asFirst m first ≡ true → r ≡ true
       → considered r place m first ≡ record { found = true; place = place; deadline = m .deadline; source = m .source }
   considered-ready e f = rw (e, f)
 

@@ -29,15 +29,14 @@ firstIn ms (some place) =
     let m = getD ms place (messageOf 0 0 [] []) in
     record { found = true; place = place; deadline = m .deadline; source = m .source }
 
--- a message goes before the one found: it has a lower deadline, then a lower source, or none was found
+-- a message goes before the one found: it has a lower deadline, then a lower source
 abbrev pub goesBefore : ℕ → ℕ → First → Bool
-goesBefore deadline source first =
-    not (first .found) || (ltb deadline (first .deadline) || eqb deadline (first .deadline) && ltb source (first .source))
+goesBefore deadline source first = ltb deadline (first .deadline) || eqb deadline (first .deadline) && ltb source (first .source)
 
--- a message at a place against the first among the earlier ones: it is the first, where it is ready and goes before that one
+-- a message at a place against the first among the earlier ones: it is the first, where it is ready and none was found or it goes before that one
 abbrev pub considered : Bool → ℕ → Message → First → First
 considered ready place m first =
-    cond (goesBefore (m .deadline) (m .source) first && ready)
+    cond ((not (first .found) || goesBefore (m .deadline) (m .source) first) && ready)
     (record { found = true; place = place; deadline = m .deadline; source = m .source })
     first
 

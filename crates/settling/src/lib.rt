@@ -73,9 +73,6 @@ pub fn ready(frame: &[u8], marks: &[u32; 64], time: u32) -> bool
 fn goes_before(deadline: u32, source: u8, first: First) -> bool
     ensures { λ r. ⌜ r ≡ goesBefore deadline source first ⌝ }
 {
-    if !first.found {
-        return true;
-    }
     if deadline != first.deadline {
         return deadline < first.deadline;
     }
@@ -97,10 +94,10 @@ fn consider<'a, 'b>(
         place (messageIn 4 (frameIn (now (slots .entry)) slot)) first ⌝ }
 {
     let frame = kept_frame(slots, slot);
-    let deadline = deadline(frame);
-    let source = source(frame);
-    if !goes_before(deadline, source, first) {
-        return first;
+    if first.found {
+        if !goes_before(deadline(frame), source(frame), first) {
+            return first;
+        }
     }
     if !ready(frame, marks, time) {
         return first;
@@ -108,8 +105,8 @@ fn consider<'a, 'b>(
     First {
         found: true,
         place,
-        deadline,
-        source,
+        deadline: deadline(frame),
+        source: source(frame),
     }
 }
 

@@ -34,7 +34,7 @@
  *   as the length says may be read there, or written where the pointer is not const.
  * - The buffers of one call overlap neither each other nor the record or the answer.
  * - While a call runs, nobody else writes its record or uses its buffers.
- * - Record and answer are passed by value, about 10 KB each: a call needs about 40 KB of stack.
+ * - Record and answer are passed by value, about 10 KB each: a call needs up to 41 KB of stack.
  *
  * No call allocates, blocks, keeps a pointer or has state of its own: calls on different records
  * may run at the same time. Calls on one record go one after another.

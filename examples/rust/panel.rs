@@ -4,7 +4,7 @@
 //! What that header asks of a caller holds here by the types: a slice is never null and has its
 //! true length; output and frame buffer are made anew for each call, with the room that it asks
 //! for; a `Panel` is lent for the time of a call, and can't be copied, so that nobody goes on with
-//! an older record. One thing is left: a call needs about 56 KB of stack, and 84 KB if it is
+//! an older record. One thing is left: a call needs about 48 KB of stack, and 70 KB if it is
 //! compiled without -O. Nothing is allocated.
 #![no_std]
 

@@ -22,6 +22,10 @@ static void count_row(const char *label, const Sides *sides)
         count(restoring());
     if (sides->by_value)
         count(sides->by_value);
+    if (sides->lent)
+        count(sides->lent);
+    if (restoring_lent())
+        count(restoring_lent());
 }
 
 void count_part(void)

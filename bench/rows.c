@@ -31,6 +31,10 @@ static void row(const char *label, uint8_t number, size_t count)
         sides.by_value(2);
         expect(label, "C by value", right);
     }
+    if (sides.lent) {
+        sides.lent(2);
+        expect(label, "proved in place", right);
+    }
     visit_row(label, &sides);
 }
 

@@ -90,6 +90,75 @@ static void hollow_call(long times)
     }
 }
 
+/* ---- The proved calls on a lent record ---- */
+
+static Panel lent_panel;
+static struct {
+    size_t from;
+    size_t n;
+} lent_changed;
+
+static inline void lent_restore(void)
+{
+    if (lent_changed.n != 0)
+        memcpy((uint8_t *)&lent_panel + lent_changed.from,
+               (const uint8_t *)&now.panel + lent_changed.from, lent_changed.n);
+}
+
+static void only_lent_restore(long times)
+{
+    for (long i = 0; i < times; i++) {
+        lent_restore();
+        keep(&lent_panel);
+    }
+}
+
+Side *restoring_lent(void)
+{
+    return lent_changed.n != 0 ? only_lent_restore : NULL;
+}
+
+static void lent_fresh(long times)
+{
+    for (long i = 0; i < times; i++) {
+        answer.number = panel_fresh_in(&lent_panel, now.own);
+        keep(&lent_panel);
+    }
+    answer.count = 0;
+}
+
+static void lent_send(long times)
+{
+    for (long i = 0; i < times; i++) {
+        lent_restore();
+        PanelAnswer s = panel_send_in(&lent_panel, now.bytes, now.n, now.lifetime,
+                                    out_proved, now.out_n, buf_proved, now.buf_n);
+        keep(&lent_panel);
+        answer = (Answer){s.number, s.count};
+    }
+}
+
+static void lent_receive(long times)
+{
+    for (long i = 0; i < times; i++) {
+        lent_restore();
+        PanelAnswer s = panel_receive_in(&lent_panel, now.bytes, now.n, out_proved,
+                                       now.out_n);
+        keep(&lent_panel);
+        answer = (Answer){s.number, s.count};
+    }
+}
+
+static void lent_clock(long times)
+{
+    for (long i = 0; i < times; i++) {
+        lent_restore();
+        PanelAnswer s = panel_clock_in(&lent_panel, now.time, out_proved, now.out_n);
+        keep(&lent_panel);
+        answer = (Answer){s.number, s.count};
+    }
+}
+
 /* ---- The calls in C ---- */
 
 static inline void c_call(Kind kind, Record *r)
@@ -175,12 +244,12 @@ static void nothing_by_value(long times) { by_value(NOTHING, times); }
 /* ---- The start of a case ---- */
 
 static const Sides sides[KINDS] = {
-    [NOTHING] = {hollow_call, NULL, nothing_by_value},
-    [CHECK] = {proved_check, check_in_place, NULL},
-    [FRESH] = {proved_fresh, fresh_in_place, NULL},
-    [SEND] = {proved_send, send_in_place, send_by_value},
-    [RECEIVE] = {proved_receive, receive_in_place, receive_by_value},
-    [CLOCK] = {proved_clock, clock_in_place, clock_by_value}
+    [NOTHING] = {hollow_call, NULL, nothing_by_value, NULL},
+    [CHECK] = {proved_check, check_in_place, NULL, NULL},
+    [FRESH] = {proved_fresh, fresh_in_place, NULL, lent_fresh},
+    [SEND] = {proved_send, send_in_place, send_by_value, lent_send},
+    [RECEIVE] = {proved_receive, receive_in_place, receive_by_value, lent_receive},
+    [CLOCK] = {proved_clock, clock_in_place, clock_by_value, lent_clock}
 };
 
 /* Notes which bytes differ in front of the waiting messages. */
@@ -204,6 +273,26 @@ static void find_changed(void)
     }
 }
 
+static void find_lent_changed(void)
+{
+    const uint8_t *before = (const uint8_t *)&now.panel;
+    const uint8_t *after = (const uint8_t *)&lent_panel;
+    size_t from = 0, to = offsetof(Panel, slots);
+
+    while (from < to && before[from] == after[from])
+        from++;
+    while (from < to && before[to - 1] == after[to - 1])
+        to--;
+    lent_changed.from = from;
+    lent_changed.n = to - from;
+    if (now.panel.count <= WAITING_MAX &&
+        memcmp(now.panel.slots, lent_panel.slots,
+               now.panel.count * PANEL_SLOT_BYTES) != 0) {
+        printf("WRONG CASE: its call moves slots, which are not put back\n");
+        exit(1);
+    }
+}
+
 Sides start_case(void)
 {
     Sides of = sides[now.kind];
@@ -214,6 +303,12 @@ Sides start_case(void)
     if (of.in_place) {
         of.in_place(1);
         find_changed();
+    }
+    memcpy(&lent_panel, &now.panel, sizeof lent_panel);
+    lent_changed.n = 0;
+    if (of.lent && now.kind >= SEND) {
+        of.lent(1);
+        find_lent_changed();
     }
     return of;
 }

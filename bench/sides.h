@@ -14,6 +14,7 @@ typedef struct {
     Side *proved;
     Side *in_place; /* null where nothing is called */
     Side *by_value; /* null where no record goes in */
+    Side *lent;     /* the proved call on a lent record; null where none goes in */
 } Sides;
 
 /* Number and count that the last call gave. */
@@ -37,5 +38,8 @@ Sides start_case(void);
  * alone, to be taken off; it is null where the call changes nothing.
  */
 Side *restoring(void);
+
+/* The same for the proved call on a lent record. */
+Side *restoring_lent(void);
 
 #endif

@@ -71,7 +71,7 @@ typedef struct {
     size_t bytes;
 } Deepest;
 
-static Deepest proved[KINDS][2], c[KINDS][2]; /* accepted, refused */
+static Deepest proved[KINDS][2], lent[KINDS][2], c[KINDS][2]; /* accepted, refused */
 
 static void deepen(Deepest *deepest, Side *side, const char *label)
 {
@@ -88,6 +88,8 @@ static void stack_row(const char *label, const Sides *sides)
 {
     int refused = answer.number != 0;
     deepen(&proved[now.kind][refused], sides->proved, label);
+    if (sides->lent)
+        deepen(&lent[now.kind][refused], sides->lent, label);
     if (sides->in_place)
         deepen(&c[now.kind][refused], sides->in_place, label);
 }
@@ -97,14 +99,14 @@ void stack_part(void)
     Deepest most = {"", 0};
 
     each_row(stack_row);
-    printf("%-45s%9s%9s\n", "stack in bytes, deepest row of each call", "proved",
+    printf("%-45s%9s%9s%9s\n", "stack in bytes, deepest row of each call", "lent", "proved",
            "in place");
     for (int kind = 0; kind < KINDS; kind++) {
         for (int refused = 0; refused < 2; refused++) {
             const Deepest *p = &proved[kind][refused], *q = &c[kind][refused];
             if (p->label[0] == 0)
                 continue;
-            printf("%-45s%9zu", p->label, p->bytes);
+            printf("%-45s%9zu%9zu", p->label, lent[kind][refused].bytes, p->bytes);
             if (q->label[0] != 0)
                 printf("%9zu\n", q->bytes);
             else

@@ -11,7 +11,7 @@
  * What is measured in a row. The calls in place put back what they change, so
  * what restoring alone takes is taken off them when the row is printed.
  */
-enum { PROVED, IN_PLACE, RESTORING, BY_VALUE, MEASURED };
+enum { PROVED, IN_PLACE, RESTORING, BY_VALUE, LENT, RESTORING_LENT, MEASURED };
 
 typedef struct {
     double of[MEASURED]; /* per call; 0 where there is no such side */
@@ -49,7 +49,8 @@ static double time_side(Side *side)
 static void time_row(const char *label, const Sides *sides)
 {
     Side *side[MEASURED] = {
-        sides->proved, sides->in_place, restoring(), sides->by_value
+        sides->proved, sides->in_place, restoring(), sides->by_value,
+        sides->lent, restoring_lent()
     };
     double *least = best[row_now++].of;
 
@@ -90,6 +91,8 @@ static Cost counts_of(const Sides *sides)
     cost.of[IN_PLACE] = next_count(sides->in_place);
     cost.of[RESTORING] = next_count(restoring());
     cost.of[BY_VALUE] = next_count(sides->by_value);
+    cost.of[LENT] = next_count(sides->lent);
+    cost.of[RESTORING_LENT] = next_count(restoring_lent());
     return cost;
 }
 
@@ -107,10 +110,13 @@ static void print_cost(const Cost *cost, int digits)
 {
     double proved = cost->of[PROVED], by_value = cost->of[BY_VALUE];
     double in_place = cost->of[IN_PLACE] - cost->of[RESTORING];
+    double lent = cost->of[LENT] - cost->of[RESTORING_LENT];
 
+    print_number(lent, digits);
     print_number(proved, digits);
     print_number(in_place, digits);
     print_number(by_value, digits);
+    print_number(in_place > 0 && lent > 0 ? lent / in_place : 0, 2);
     print_number(in_place > 0 ? proved / in_place : 0, 2);
     print_number(by_value > 0 ? proved / by_value : 0, 2);
 }
@@ -128,7 +134,7 @@ static void print_row(const char *label, const Sides *sides)
 
 static void print_head(int rounds)
 {
-    static const char sides[] = "   proved in place by value in place by value";
+    static const char sides[] = "     lent   proved in place by value lent/in. prov/in. prov/by.";
     char times[80];
 
     snprintf(times, sizeof times, "ns per call, best of %d rounds", rounds);

@@ -224,8 +224,71 @@ PANEL_ASSERT(PANEL_WAITING_MAX * PANEL_SLOT_BYTES == PANEL_SLOTS_BYTES, "slots")
  * A fresh panel: time 0, high 0, all marks and barrier entries 0, nothing waiting.
  * Refused with 11; the record is then a fresh panel 0.
  */
+PANEL_ANSWER PANEL_NOT_NULL
+uint8_t panel_fresh_lent(uint8_t number, uint8_t *own, uint32_t *time, uint32_t *high,
+                         size_t *count, uint32_t *marks, uint32_t *barrier);
+
+PANEL_ANSWER PANEL_NOT_NULL
+static inline uint8_t panel_fresh_in(Panel *p, uint8_t number)
+{
+    return panel_fresh_lent(number, &p->own, &p->time, &p->high, &p->count, p->marks, p->barrier);
+}
+
 PANEL_ANSWER
-PanelFresh panel_fresh(uint8_t own);
+static inline PanelFresh panel_fresh(uint8_t own)
+{
+    PanelFresh fresh = {{0, 0, 0, 0, {0}, {0}, {0}}, 0};
+    fresh.number = panel_fresh_in(&fresh.panel, own);
+    return fresh;
+}
+
+/* ---- The calls in place: they change the record behind the pointer, and on a refusal nothing.
+   The archive has the functions on its parts. ---- */
+
+typedef struct {
+    size_t count;
+    size_t length;
+    uint8_t number;
+} PanelAnswer;
+
+PanelAnswer panel_send_lent(
+    uint8_t own, uint32_t *time, uint32_t *high, size_t *count,
+    uint32_t *marks, uint32_t *barrier, uint8_t *slots,
+    const uint8_t *payload, size_t payload_length, uint16_t lifetime,
+    uint8_t *output, size_t output_length, uint8_t *frame, size_t frame_length);
+PanelAnswer panel_receive_lent(
+    uint8_t own, uint32_t *time, uint32_t *high, size_t *count,
+    uint32_t *marks, uint32_t *barrier, uint8_t *slots,
+    const uint8_t *frame, size_t frame_length, uint8_t *output, size_t output_length);
+PanelAnswer panel_clock_lent(
+    uint8_t own, uint32_t *time, uint32_t *high, size_t *count,
+    uint32_t *marks, uint32_t *barrier, uint8_t *slots,
+    uint32_t reading, uint8_t *output, size_t output_length);
+
+static inline PanelAnswer panel_send_in(Panel *p, const uint8_t *payload, size_t payload_length,
+                                        uint16_t lifetime, uint8_t *output, size_t output_length,
+                                        uint8_t *frame, size_t frame_length)
+{
+    return panel_send_lent(p->own, &p->time, &p->high, &p->count, p->marks, p->barrier, p->slots,
+                           payload, payload_length, lifetime, output, output_length, frame,
+                           frame_length);
+}
+
+static inline PanelAnswer panel_receive_in(Panel *p, const uint8_t *frame, size_t frame_length,
+                                           uint8_t *output, size_t output_length)
+{
+    return panel_receive_lent(p->own, &p->time, &p->high, &p->count, p->marks, p->barrier, p->slots,
+                              frame, frame_length, output, output_length);
+}
+
+static inline PanelAnswer panel_clock_in(Panel *p, uint32_t time, uint8_t *output,
+                                         size_t output_length)
+{
+    return panel_clock_lent(p->own, &p->time, &p->high, &p->count, p->marks, p->barrier, p->slots,
+                            time, output, output_length);
+}
+
+/* ---- The calls by value, over those in place ---- */
 
 /*
  * Sends a payload of 0 to 32 bytes. The deadline of the message is the larger of time + lifetime
@@ -237,9 +300,19 @@ PanelFresh panel_fresh(uint8_t own);
  * Refused with the first of 26, 10, 9, 24 that applies.
  */
 PANEL_ANSWER PANEL_NOT_NULL
-PanelSent panel_send(Panel panel, const uint8_t *payload, size_t payload_length, uint16_t lifetime,
-                     uint8_t *output, size_t output_length,
-                     uint8_t *frame, size_t frame_length);
+static inline PanelSent panel_send(Panel panel, const uint8_t *payload, size_t payload_length,
+                                   uint16_t lifetime, uint8_t *output, size_t output_length,
+                                   uint8_t *frame, size_t frame_length)
+{
+    PanelSent sent;
+    PanelAnswer a = panel_send_in(&panel, payload, payload_length, lifetime, output, output_length,
+                                  frame, frame_length);
+    sent.panel = panel;
+    sent.count = a.count;
+    sent.length = a.length;
+    sent.number = a.number;
+    return sent;
+}
 
 /*
  * Receives a frame, whole or damaged, of any length. Its message is handed if it is ready, that is
@@ -249,8 +322,16 @@ PanelSent panel_send(Panel panel, const uint8_t *payload, size_t payload_length,
  * Refused with the first of 26, 10, 1 to 8 as by frame_check, 20, 21, 22, 23 that applies.
  */
 PANEL_ANSWER PANEL_NOT_NULL
-PanelReceived panel_receive(Panel panel, const uint8_t *frame, size_t frame_length,
-                            uint8_t *output, size_t output_length);
+static inline PanelReceived panel_receive(Panel panel, const uint8_t *frame, size_t frame_length,
+                                          uint8_t *output, size_t output_length)
+{
+    PanelReceived received;
+    PanelAnswer a = panel_receive_in(&panel, frame, frame_length, output, output_length);
+    received.panel = panel;
+    received.count = a.count;
+    received.number = a.number;
+    return received;
+}
 
 /*
  * Sets the time. Waiting messages whose deadline is below it have lapsed: they are dropped, and
@@ -260,7 +341,16 @@ PanelReceived panel_receive(Panel panel, const uint8_t *frame, size_t frame_leng
  * Refused with the first of 26, 10, 25 that applies. The same time again is accepted.
  */
 PANEL_ANSWER PANEL_NOT_NULL
-PanelClocked panel_clock(Panel panel, uint32_t time, uint8_t *output, size_t output_length);
+static inline PanelClocked panel_clock(Panel panel, uint32_t time, uint8_t *output,
+                                       size_t output_length)
+{
+    PanelClocked clocked;
+    PanelAnswer a = panel_clock_in(&panel, time, output, output_length);
+    clocked.panel = panel;
+    clocked.count = a.count;
+    clocked.number = a.number;
+    return clocked;
+}
 
 /*
  * 0 for the bytes of a frame, or the number of the first check that applies: fewer than 19 bytes

@@ -23,18 +23,31 @@ use Rattle.panel.proofs.panel_fresh.Met as fresh-theorem
 use Rattle.panel.proofs.panel_send.Statement as send
 use Rattle.panel.proofs.panel_send.Met as send-theorem
 use Rattle.panel.proofs.panel_send.Kinds as send-kinds
+use Rattle.panel.proofs.panel_send_lent.Statement as send-lent
+use Rattle.panel.proofs.panel_send_lent.Met as send-lent-theorem
+use Rattle.panel.proofs.panel_send_lent.Kinds as send-lent-kinds
+use Rattle.panel.proofs.panel_send_lent.Reads as send-lent-reads
 use Rattle.panel.proofs.panel_send.Reads as send-reads
 use Rattle.panel.proofs.panel_receive.Statement as receive
 use Rattle.panel.proofs.panel_receive.Met as receive-theorem
 use Rattle.panel.proofs.panel_receive.Kinds as receive-kinds
+use Rattle.panel.proofs.panel_receive_lent.Statement as receive-lent
+use Rattle.panel.proofs.panel_receive_lent.Met as receive-lent-theorem
+use Rattle.panel.proofs.panel_receive_lent.Kinds as receive-lent-kinds
+use Rattle.panel.proofs.panel_receive_lent.Reads as receive-lent-reads
 use Rattle.panel.proofs.panel_receive.Reads as receive-reads
 use Rattle.panel.proofs.panel_clock.Kinds as clock-kinds
+use Rattle.panel.proofs.panel_clock_lent.Statement as clock-lent
+use Rattle.panel.proofs.panel_clock_lent.Met as clock-lent-theorem
+use Rattle.panel.proofs.panel_clock_lent.Kinds as clock-lent-kinds
+use Rattle.panel.proofs.panel_clock_lent.Reads as clock-lent-reads
 use Rattle.panel.proofs.panel_clock.Reads as clock-reads
 use Rattle.panel.proofs.panel_clock.Statement as clock
 use Rattle.panel.proofs.panel_clock.Met as clock-theorem
 use Rattle.demands.specs.Runs.{Run, madeOf, Follows}
 use Rattle.demands.proofs.Following.{follows-promised}
 use Rattle.demands.proofs.Learning.{Gives, SendPromise, ReceivePromise, ClockPromise, send-learnt, receive-learnt, clock-learnt}
+use Rattle.demands.proofs.Learning.{SendLentPromise, ReceiveLentPromise, ClockLentPromise, send-lent-learnt, receive-lent-learnt, clock-lent-learnt}
 
 pub record Demands (M : Type 1) : Type 2 where
   -- The code: each function ends, is safe, and keeps its contract (crates/panel/src/lib.rt) for all arguments: the call's answer, the record
@@ -43,10 +56,17 @@ pub record Demands (M : Type 1) : Type 2 where
   pub panel-send : send.statement M
   pub panel-receive : receive.statement M
   pub panel-clock : clock.statement M
+  -- The same on a record that is lent in parts, which is what C calls.
+  pub panel-send-lent : send-lent.statement M
+  pub panel-receive-lent : receive-lent.statement M
+  pub panel-clock-lent : clock-lent.statement M
   -- What a caller learns of a call, by these theorems, is the promise that `every-list` goes by.
   pub send-promise : Gives 3 send-kinds.ps send-kinds.r send-reads.Learnt SendPromise
   pub receive-promise : Gives 2 receive-kinds.ps receive-kinds.r receive-reads.Learnt ReceivePromise
   pub clock-promise : Gives 1 clock-kinds.ps clock-kinds.r clock-reads.Learnt ClockPromise
+  pub send-lent-promise : Gives 9 send-lent-kinds.ps send-lent-kinds.r send-lent-reads.Learnt SendLentPromise
+  pub receive-lent-promise : Gives 8 receive-lent-kinds.ps receive-lent-kinds.r receive-lent-reads.Learnt ReceiveLentPromise
+  pub clock-lent-promise : Gives 7 clock-lent-kinds.ps clock-lent-kinds.r clock-lent-reads.Learnt ClockLentPromise
   -- Demand 1: the answer is a result or one of the numbers in document 01; a refusal gives back the record as it was and alters no byte.
   pub numbers : (p : Panel) (call : Call) → (defined p call .number ≡ 0) ⊎ (isRefusal (defined p call .number) ≡ true)
   pub refusals : (p : Panel) (call : Call) → defined p call .number ≢ 0
@@ -66,9 +86,15 @@ demands =
       panel-send = send-theorem.met;
       panel-receive = receive-theorem.met;
       panel-clock = clock-theorem.met;
+      panel-send-lent = send-lent-theorem.met;
+      panel-receive-lent = receive-lent-theorem.met;
+      panel-clock-lent = clock-lent-theorem.met;
       send-promise = send-learnt;
       receive-promise = receive-learnt;
       clock-promise = clock-learnt;
+      send-lent-promise = send-lent-learnt;
+      receive-lent-promise = receive-lent-learnt;
+      clock-lent-promise = clock-lent-learnt;
       numbers = number-listed;
       refusals = refusal-unchanged;
       written-reads = λ m e. reading-frame width m (omega arith, omega arith) e;

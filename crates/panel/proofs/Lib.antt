@@ -1,9 +1,3 @@
--- Laws of the calls: their checks, taking a message, and their answers.
+-- Laws of a fresh panel, and of the calls by value over those in place.
 pub mod Refusing
-pub mod MessageChecks
-pub mod Checking
-pub mod Taking
-pub mod Answering
-pub mod ClockDone
-pub mod ReceiveDone
-pub mod SendDone
+pub mod ByValue

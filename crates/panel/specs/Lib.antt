@@ -1,3 +1,2 @@
--- The record that the struct holds, what the calls' answers say, and the steps between.
+-- The record that the struct holds, and what the calls' answers say.
 pub mod Record
-pub mod Steps

@@ -4,18 +4,13 @@ use mathlib.Core.Path.{_≡_}
 use mathlib.Core.List.{List, []}
 use Rattle.rules.specs.Panel.{Panel as Record}
 use Rattle.rules.specs.Results.{Result}
-use Rattle.slots.specs.Slots.{held, firstSlots}
+use Rattle.parts.specs.Record.{recordWith}
 use Rattle.panel.specs.declared.Panel.{Panel}
 use Rattle.panel.specs.declared.Sent.{Sent}
 use Rattle.panel.specs.declared.Received.{Received}
 use Rattle.panel.specs.declared.Clocked.{Clocked}
 
 -- ---- the record
-
--- the record of these fields, whose waiting messages lie in the first slots
-abbrev pub recordWith : ℕ → ℕ → ℕ → List ℕ → List ℕ → List ℕ → ℕ → Record
-recordWith own time high marks barrier slots count =
-    record { own = own; time = time; high = high; marks = marks; barrier = barrier; waiting = held slots (firstSlots count) }
 
 -- the record that the struct holds
 abbrev pub recordOf : Panel → Record

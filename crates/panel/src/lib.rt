@@ -1,17 +1,20 @@
-// The panel: its record, and the calls fresh, send, receive and clock. No public function asks
-// anything of its caller; what each promises is that of document 01, for every argument.
-mod clocking;
-mod receiving;
-mod record;
-mod sending;
+// The panel: its record, and the calls fresh, send, receive and clock, by value and on a record that is
+// lent in parts. No public function asks anything of its caller; what each promises is that of document
+// 01, for every argument.
+mod lent;
 
-pub use clocking::panel_clock;
-pub use receiving::panel_receive;
-pub use sending::panel_send;
+use clocking::clock_lent;
+pub use lent::panel_clock_lent;
+pub use lent::panel_fresh_lent;
+pub use lent::panel_receive_lent;
+pub use lent::panel_send_lent;
+use receiving::receive_lent;
+use sending::send_lent;
 ghost use mathlib.Core.Path.{_≡_};
 ghost use Rattle.rules.specs.Panel.{fresh as freshPanel};
 ghost use Rattle.rules.specs.Refusals.{freshNumber, freshRecord};
-ghost use Rattle.panel.specs.Record.{recordOf};
+ghost use Rattle.rules.specs.Results.{Promised, send, receive, clock};
+ghost use Rattle.panel.specs.Record.{recordOf, sentResult, receivedResult, clockedResult, GivenBack};
 
 // The record. Of the slots the first `count` hold the waiting messages in the order taken: 309 bytes
 // each, the length of a frame in 16 bits and then the frame.
@@ -75,8 +78,7 @@ fn fresh_panel(own: u8) -> Panel
 }
 
 // A fresh panel; for a number above 63 it is panel 0, with 11.
-#[no_mangle]
-pub extern "C" fn panel_fresh(own: u8) -> Fresh
+pub fn panel_fresh(own: u8) -> Fresh
     ensures { λ r. ⌜ (r .number ≡ freshNumber own) × (recordOf (r .panel) ≡ freshRecord own) ⌝ }
 {
     if 63 < own {
@@ -88,5 +90,114 @@ pub extern "C" fn panel_fresh(own: u8) -> Fresh
     Fresh {
         number: 0,
         panel: fresh_panel(own),
+    }
+}
+
+// A payload is sent with a lifetime: its frame stands in the buffer, and the log records in the output.
+pub fn panel_send<'a, 'b, 'c>(
+    mut p: Panel,
+    payload: &'a [u8],
+    lifetime: u16,
+    output: &'b mut [u8],
+    buffer: &'c mut [u8],
+) -> Sent
+    ensures { λ r. ⌜ Promised (recordOf p) (send (now (payload .entry)) lifetime (now (output .entry)) (now (buffer .entry)))
+        (sentResult r (now (output .exit)) (now (buffer .exit))) ⌝ }
+    ensures { λ r. ⌜ GivenBack (r .number) p (r .panel) ⌝ }
+{
+    let mut at = p.time;
+    let mut high = p.high;
+    let mut count = p.count;
+    let mut marks = p.marks;
+    let mut barrier = p.barrier;
+    let answer = send_lent(
+        p.own,
+        &mut at,
+        &mut high,
+        &mut count,
+        &mut marks,
+        &mut barrier,
+        &mut p.slots,
+        payload,
+        lifetime,
+        output,
+        buffer,
+    );
+    p.time = at;
+    p.high = high;
+    p.count = count;
+    p.marks = marks;
+    p.barrier = barrier;
+    Sent {
+        panel: p,
+        count: answer.count,
+        length: answer.length,
+        number: answer.number,
+    }
+}
+
+// A frame is received: the log records stand in the output.
+pub fn panel_receive<'a, 'b>(mut p: Panel, frame: &'a [u8], output: &'b mut [u8]) -> Received
+    ensures { λ r. ⌜ Promised (recordOf p) (receive (now (frame .entry)) (now (output .entry))) (receivedResult r (now (output .exit))) ⌝ }
+    ensures { λ r. ⌜ GivenBack (r .number) p (r .panel) ⌝ }
+{
+    let mut at = p.time;
+    let mut high = p.high;
+    let mut count = p.count;
+    let mut marks = p.marks;
+    let mut barrier = p.barrier;
+    let answer = receive_lent(
+        p.own,
+        &mut at,
+        &mut high,
+        &mut count,
+        &mut marks,
+        &mut barrier,
+        &mut p.slots,
+        frame,
+        output,
+    );
+    p.time = at;
+    p.high = high;
+    p.count = count;
+    p.marks = marks;
+    p.barrier = barrier;
+    Received {
+        panel: p,
+        count: answer.count,
+        number: answer.number,
+    }
+}
+
+// The clock shows a time: the log records stand in the output.
+pub fn panel_clock(mut p: Panel, time: u32, output: &mut [u8]) -> Clocked
+    ensures { λ r. ⌜ Promised (recordOf p) (clock time (now (output .entry))) (clockedResult r (now (output .exit))) ⌝ }
+    ensures { λ r. ⌜ GivenBack (r .number) p (r .panel) ⌝ }
+{
+    let mut at = p.time;
+    let mut high = p.high;
+    let mut count = p.count;
+    let mut marks = p.marks;
+    let mut barrier = p.barrier;
+    let answer = clock_lent(
+        p.own,
+        &mut at,
+        &mut high,
+        &mut count,
+        &mut marks,
+        &mut barrier,
+        &mut p.slots,
+        time,
+        output,
+    );
+    p.time = at;
+    p.high = high;
+    p.count = count;
+    p.marks = marks;
+    p.barrier = barrier;
+    Clocked {
+        panel: p,
+        count: answer.count,
+        number: answer.number,
     }
 }

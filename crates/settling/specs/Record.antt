@@ -50,6 +50,10 @@ pub record Stage : Type 0 where
   pub barrier : List ℕ
   pub output : List ℕ
 
+-- what is left, of these numbers
+abbrev pub left : ℕ → ℕ → ℕ → ℕ → ℕ → Settling
+left own time high waiting handed = record { own = own; time = time; high = high; waiting = waiting; handed = handed }
+
 abbrev pub stage : Settling → List ℕ → List ℕ → List ℕ → List ℕ → Stage
 stage left places marks barrier output = record { left = left; places = places; marks = marks; barrier = barrier; output = output }
 

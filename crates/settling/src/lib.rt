@@ -19,7 +19,7 @@ ghost use Rattle.rules.specs.Handing.{raise, logRecord};
 ghost use Rattle.rules.specs.Settling.{choice as choiceIn};
 ghost use Rattle.slots.specs.Slots.{Reads, Slots, Listed, held};
 ghost use Rattle.slots.specs.Slots.{frameAt as frameIn};
-ghost use Rattle.settling.specs.Record.{asking, firstIn, goesBefore, considered, Leaves, stage, Settles};
+ghost use Rattle.settling.specs.Record.{asking, firstIn, goesBefore, considered, Leaves, left, stage, Settles};
 
 // The record while it settles, but for what is lent: how many messages still wait, in the slots that
 // the first of the places list, and how many log records have been written.
@@ -214,39 +214,50 @@ fn leave(places: &mut [u8; 32], waiting: usize, place: usize) -> u8
 }
 
 // While some waiting message is ready, the chosen one leaves the list and is handed, and settling
-// goes on with the record that is left.
+// goes on with the record that is left: so many still wait, and the answer is how many do at its end.
+// (Only numbers and references are passed, so that the compiler makes a loop of it.)
 pub fn settle(
-    s: Settling,
+    own: u8,
+    time: u32,
+    waiting: usize,
+    high: &mut u32,
+    handed: &mut usize,
     places: &mut [u8; 32],
     marks: &mut [u32; 64],
     barrier: &mut [u32; 64],
     slots: &[u8],
     output: &mut [u8],
-) -> Settling
-    requires { ⌜ Slots (now slots) × Listed (now slots) (s .waiting) (now places) × (length (now places) ≡ 32) ⌝ }
-    requires { ⌜ (s .handed + s .waiting) * 38 ≤ length (now output) ⌝ }
-    ensures { λ r. ⌜ Settles (now (slots .entry)) (stage s (now (places .entry)) (now (marks .entry)) (now (barrier .entry)) (now (output .entry)))
-        (stage r (now (places .exit)) (now (marks .exit)) (now (barrier .exit)) (now (output .exit))) ⌝ }
+) -> usize
+    requires { ⌜ Slots (now slots) × Listed (now slots) waiting (now places) × (length (now places) ≡ 32) ⌝ }
+    requires { ⌜ (now handed + waiting) * 38 ≤ length (now output) ⌝ }
+    ensures { λ r. ⌜ Settles (now (slots .entry))
+        (stage (left own time (now (high .entry)) waiting (now (handed .entry))) (now (places .entry)) (now (marks .entry)) (now (barrier .entry)) (now (output .entry)))
+        (stage (left own time (now (high .exit)) r (now (handed .exit))) (now (places .exit)) (now (marks .exit)) (now (barrier .exit)) (now (output .exit))) ⌝ }
 {
-    let next = choice(s.waiting, places, marks, s.time, slots);
+    let next = choice(waiting, places, marks, time, slots);
     if !next.found {
-        return s;
+        return waiting;
     }
-    let slot = leave(places, s.waiting, next.place) as usize;
-    let high = hand(
-        s.high,
-        s.handed,
+    let slot = leave(places, waiting, next.place) as usize;
+    *high = hand(
+        *high,
+        *handed,
         marks,
         barrier,
         kept_frame(slots, slot),
         output,
     );
-    let rest = Settling {
-        own: s.own,
-        time: s.time,
+    *handed += 1;
+    settle(
+        own,
+        time,
+        waiting - 1,
         high,
-        waiting: s.waiting - 1,
-        handed: s.handed + 1,
-    };
-    settle(rest, places, marks, barrier, slots, output)
+        handed,
+        places,
+        marks,
+        barrier,
+        slots,
+        output,
+    )
 }

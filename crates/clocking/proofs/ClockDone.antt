@@ -1,0 +1,55 @@
+-- A clock reading that is not turned down: document 01's clock. Assumes nothing.
+use mathlib.Core.Path.{_≡_, refl, sym, ap}
+use mathlib.Core.List.{List, []}
+use Prim.Native.Nat.{ℕ}
+use lib.ListN.{length}
+use Rattle.numbers.proofs.Over.{over-nil}
+use Rattle.frame.specs.Message.{Message}
+use Rattle.frame.specs.Refusal.{firstOf}
+use Rattle.rules.specs.Handing.{logRecords}
+use Rattle.rules.specs.Settling.{settle, withWaiting}
+use Rattle.rules.specs.Calls.{withTime, dropLapsed, clocking}
+use Rattle.rules.specs.Panel.{Panel as Record}
+use Rattle.rules.specs.Refusals.{broken, clockChecks}
+use Rattle.rules.specs.Results.{Promised, clock}
+use Rattle.slots.specs.Moves.{Alive}
+use Rattle.slots.specs.declared.Places.{Places}
+use Rattle.settling.specs.declared.Settling.{Settling}
+use Rattle.settling.specs.Record.{Stage, stage, panelAt}
+use Rattle.parts.specs.Record.{Head, recordOf, SettlesSlots}
+use Rattle.parts.proofs.Answering.{settled-promised}
+use Rattle.clocking.specs.Checks.{clockChecksOn}
+
+pub clockChecks-on : (p : Record) (time : ℕ) (output : List ℕ) → clockChecksOn (broken p) (length output) time (p .time) ≡ clockChecks p time output
+unfolding clockChecks
+clockChecks-on p time output = refl
+
+module _ (head : Head) (marks barrier slots : List ℕ) (time : ℕ) (output : List ℕ) (kept : Places) (alive : Alive slots (head .count) time kept) where
+  abbrev given : Record
+  given = recordOf head marks barrier slots
+
+  -- the record with its time set and the lapsed dropped, as it begins to settle
+  abbrev pub begun : Settling
+  begun = record { own = head .own; time = time; high = head .high; waiting = kept .count; handed = 0 }
+
+  abbrev pub begunStage : Stage
+  begunStage = stage begun (kept .slots) marks barrier output
+
+  panel-begun : panelAt slots begunStage ≡ dropLapsed (withTime given time)
+  panel-begun = ap (λ (ms : List Message). withWaiting (withTime given time) ms) (alive .messages (withTime given time) refl)
+
+  pub clocked-done : (slots′ : List ℕ) (after : Stage) (back : Record) → firstOf (clockChecks given time output) ≡ 0
+      → SettlesSlots slots begunStage slots′ after → back ≡ settle (panelAt slots begunStage) .panel
+      → Promised given (clock time output)
+      (record { number = 0; panel = back; count = after .left .handed; output = after .output; frameLength = 0; buffer = [] })
+  unfolding clocking logRecords
+  clocked-done slots′ after back passed settles e =
+      settled-promised given (clock time output) passed slots [] begunStage slots′ after settles
+      (ap settle (sym panel-begun))
+      (sym (over-nil output 0))
+      refl
+      refl
+      back
+      []
+      e
+      (sym (over-nil [] 0))

@@ -1,0 +1,99 @@
+-- `clocking::clock_lent` meets its contract: a refusal is the first check that applies, and the rest is document 01's clock. Assumes nothing.
+use mathlib.Core.Path.{_≡_, refl, sym, ap, _∙_}
+use mathlib.Core.Bool.{Bool}
+use native.Mathlib.Omega.{arith}
+use borrow.Author.Needs.{needs}
+use lib.ListN.{length}
+use Rattle.frame.specs.Refusal.{firstOf}
+use Rattle.rules.specs.Panel.{Panel as Record}
+use Rattle.rules.specs.Refusals.{broken, clockChecks}
+use Rattle.rules.specs.Results.{refused, clock}
+use Rattle.rules.proofs.Checks.{ClockPassed, clock-passed}
+use Rattle.slots.specs.Slots.{firstSlots}
+use Rattle.settling.specs.Record.{left, stage}
+use Rattle.parts.specs.Record.{Head, headOf, recordOf}
+use Rattle.parts.proofs.Answering.{refused-promised, valid-kept}
+use Rattle.clocking.specs.Checks.{clockChecksOn}
+use Rattle.clocking.proofs.ClockDone.{clockChecks-on, clocked-done}
+use Rattle.clocking.proofs.clock_lent.Statement.{statement}
+use Rattle.clocking.proofs.clock_lent.Tie as tie
+
+-- looking back: the start of the call
+abbrev start : tie.After-broken → tie.Start
+start c = c .before .before .before .before .before .before .before .before .before .before
+
+-- the record that was given
+abbrev head : tie.Start → Head
+head c = let a = c .args in headOf (a .own) (a .time .now) (a .high .now) (a .count .now)
+
+abbrev given : tie.Start → Record
+given c = let a = c .args in recordOf (head c) (a .marks .now) (a .barrier .now) (a .slots .now)
+
+-- the number is that of the first check that applies
+numbered : (c : tie.After-clock-number) → let s = start (c .before .before) in
+    c .clock-number .result ≡ firstOf (clockChecks (given s) (s .args .reading) (s .args .output .now))
+unfolding broken
+numbered c =
+    let s = start (c .before .before) in
+    let a = s .args in
+    c .clock-number .ensures
+    ∙ ap (λ (b : Bool). firstOf (clockChecksOn b (length (a .output .now)) (a .reading) (a .time .now))) (c .before .before .broken .ensures)
+    ∙ ap firstOf (clockChecks-on (given s) (a .reading) (a .output .now))
+
+-- past the checks
+abbrev back : tie.Else1 → tie.Start
+back c = start (c .before .before .before)
+
+passed : (c : tie.Else1) → firstOf (clockChecks (given (back c)) (back c .args .reading) (back c .args .output .now)) ≡ 0
+passed c = sym (numbered (c .before)) ∙ c .if1 .left
+
+checked : (c : tie.Else1) → ClockPassed (given (back c)) (back c .args .reading) (back c .args .output .now)
+checked c = clock-passed (given (back c)) (back c .args .reading) (back c .args .output .now) (passed c)
+
+broken-requires : tie.Need-broken-requires
+broken-requires c κs = search needs
+
+clock-number-requires : tie.Need-clock-number-requires
+clock-number-requires c κs = search needs
+
+returns : tie.Need-returns
+unfolding refused
+returns c = (refused-promised _ (clock _ _) _ (numbered (c .before)) (c .if1 .taken), λ _. (refl, refl, refl, refl))
+
+alive-requires : tie.Need-alive-requires
+alive-requires c κs = (search needs, valid-kept _ _ _ _ (checked (c .before .before) .valid))
+
+settle-slots-requires : tie.Need-settle-slots-requires
+settle-slots-requires c κs =
+    let kept = c .before .before .before .before .before .before .before in
+    let listed = kept .alive .ensures .listed in
+    ((search needs, listed), omega (arith, listed .few, checked (kept .before .before .before) .output-room))
+
+same-length : tie.Need-same-length
+same-length c = search needs
+
+returns-2 : tie.Need-returns-2
+returns-2 c =
+    let settled = c .before .before in
+    let kept = settled .before .before .before .before .before .before .before .before in
+    let past = kept .before .before .before in
+    let a = back past .args in
+    let s = settled .settle-slots in (
+      clocked-done (head (back past)) (a .marks .now) (a .barrier .now) (a .slots .now) (a .reading) (a .output .now) _ (kept .alive .ensures)
+          (s .last .1 .1 .1 .1 .1 .1 .1 .1 .0)
+          (stage (left (a .own) (a .reading) (s .last .1 .1 .1 .0) (s .result) (s .last .1 .1 .1 .1 .0)) (firstSlots 32) (s .last .1 .1 .1 .1 .1 .1 .0) (s .last .1 .1 .1 .1 .1 .1 .1 .0) (s .last .1 .1 .1 .1 .1 .1 .1 .1 .1 .0)) _ (passed past) (s .ensures)
+          (s .ensures .panel),
+      λ refuses. absurd (refuses refl),
+    )
+
+pub clock-lent-spec : {M : Type 1} → statement M
+clock-lent-spec =
+    tie.close
+    (tie.spec
+    broken-requires
+    clock-number-requires
+    returns
+    alive-requires
+    settle-slots-requires
+    same-length
+    returns-2)

@@ -1,0 +1,2 @@
+-- The checks of a clock call.
+pub mod Checks

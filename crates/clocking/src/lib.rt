@@ -1,0 +1,79 @@
+// Clock, on a record that is lent. The function asks nothing of its caller; what it promises is that of
+// document 01, for every argument.
+use parts::Answer;
+use parts::broken;
+use parts::settle_slots;
+use slots::alive;
+ghost use mathlib.Core.Path.{_≡_};
+ghost use mathlib.Core.List.{[]};
+ghost use Rattle.frame.specs.Refusal.{firstOf};
+ghost use Rattle.rules.specs.Results.{Promised, clock};
+ghost use Rattle.parts.specs.Record.{headOf, recordOf, answered, Untouched};
+ghost use Rattle.clocking.specs.Checks.{clockChecksOn};
+
+// The number of the first check that turns down a clock reading, or 0: 26, 10, 25.
+fn clock_number(broken: bool, output: usize, reading: u32, time: u32) -> u8
+    ensures { λ r. ⌜ r ≡ firstOf (clockChecksOn broken output reading time) ⌝ }
+{
+    if broken {
+        return 26; // the record is broken
+    }
+    if output < 1254 {
+        return 10; // the output is short
+    }
+    if reading < time {
+        return 25; // the reading is below the panel's time
+    }
+    0
+}
+
+// The clock shows a time: the log records stand in the output.
+pub fn clock_lent(
+    own: u8,
+    time: &mut u32,
+    high: &mut u32,
+    count: &mut usize,
+    marks: &mut [u32; 64],
+    barrier: &mut [u32; 64],
+    slots: &mut [u8; 9888],
+    reading: u32,
+    output: &mut [u8],
+) -> Answer
+    ensures { λ r. ⌜ Promised (recordOf (headOf own (now (time .entry)) (now (high .entry)) (now (count .entry))) (now (marks .entry)) (now (barrier .entry)) (now (slots .entry)))
+        (clock reading (now (output .entry)))
+        (answered r (recordOf (headOf own (now (time .exit)) (now (high .exit)) (now (count .exit))) (now (marks .exit)) (now (barrier .exit)) (now (slots .exit)))
+        (now (output .exit)) []) ⌝ }
+    ensures { λ r. ⌜ Untouched (r .number) (headOf own (now (time .entry)) (now (high .entry)) (now (count .entry))) (headOf own (now (time .exit)) (now (high .exit)) (now (count .exit)))
+        (now (marks .entry)) (now (marks .exit)) (now (barrier .entry)) (now (barrier .exit)) (now (slots .entry)) (now (slots .exit)) ⌝ }
+{
+    let broken = broken(own, *high, *count, marks, barrier, slots);
+    let number = clock_number(broken, output.len(), reading, *time);
+    if number != 0 {
+        return Answer {
+            count: 0,
+            length: 0,
+            number,
+        };
+    }
+    let kept = alive(slots, *count, reading);
+    let places = kept.slots;
+    let mut handed = 0;
+    *count = settle_slots(
+        own,
+        reading,
+        kept.count,
+        high,
+        &mut handed,
+        places,
+        marks,
+        barrier,
+        slots,
+        output,
+    );
+    *time = reading;
+    Answer {
+        count: handed,
+        length: 0,
+        number: 0,
+    }
+}

@@ -1,0 +1,106 @@
+// The record in parts, as the calls have it lent. What the calls have in common: refusal 26, and settling the record. An internal crate:
+// its functions ask their callers for slots, places and room, and the calls of a panel give them.
+use settling::settle;
+use slots::all_read;
+use slots::gather;
+ghost use mathlib.Core.Path.{_≡_};
+ghost use Prim.Native.Nat.{_+_, _*_, _≤_};
+ghost use lib.ListN.{length};
+ghost use Rattle.frame.specs.Readable.{eachBelow};
+ghost use Rattle.rules.specs.Refusals.{broken as isBroken};
+ghost use Rattle.slots.specs.Slots.{Slots, Listed, firstSlots};
+ghost use Rattle.settling.specs.Record.{left, stage};
+ghost use Rattle.parts.specs.Record.{recordWith, SettlesSlots};
+
+// The answer of a call: number is 0, or that of a refusal, with count and length 0, and everything that
+// was lent as it was. count is that of the log records in the output, length that of the frame that a
+// send wrote to its buffer.
+#[repr(C)]
+pub struct Answer {
+    pub count: usize,
+    pub length: usize,
+    pub number: u8,
+}
+
+// Whether each number is at most the limit. (It goes through all of them, so that the compiler takes four
+// at a time.)
+fn each_at_most(numbers: &[u32], limit: u32) -> bool
+    requires { ⌜ length (now numbers) ≡ 64 ⌝ }
+    ensures { λ r. ⌜ r ≡ eachBelow (limit + 1) (now (numbers .entry)) ⌝ }
+{
+    let mut all = true;
+    let mut i = 64;
+    while 0 < i {
+        i -= 1;
+        if limit < numbers[i] {
+            all = false;
+        }
+    }
+    all
+}
+
+// Whether 26 applies. (Marks and barrier are slices here: where an array is lent as a slice, the prover
+// learns its length.)
+pub fn broken<'a>(
+    own: u8,
+    high: u32,
+    count: usize,
+    marks: &'a [u32],
+    barrier: &'a [u32],
+    slots: &'a [u8],
+) -> bool
+    requires { ⌜ (length (now marks) ≡ 64) × (length (now barrier) ≡ 64) × Slots (now slots) ⌝ }
+    ensures { λ r. ⌜ r ≡ isBroken (recordWith own 0 high (now (marks .entry)) (now (barrier .entry)) (now (slots .entry)) count) ⌝ }
+{
+    if 63 < own {
+        return true;
+    }
+    if !each_at_most(marks, high) {
+        return true;
+    }
+    if !each_at_most(barrier, high) {
+        return true;
+    }
+    if 32 < count {
+        return true;
+    }
+    !all_read(slots, count)
+}
+
+// Settles, and moves the frames of the messages that still wait up to the first slots; the answer is how
+// many do.
+pub fn settle_slots(
+    own: u8,
+    time: u32,
+    waiting: usize,
+    high: &mut u32,
+    handed: &mut usize,
+    places: [u8; 32],
+    marks: &mut [u32; 64],
+    barrier: &mut [u32; 64],
+    slots: &mut [u8; 9888],
+    output: &mut [u8],
+) -> usize
+    requires { ⌜ Slots (now slots) × Listed (now slots) waiting places ⌝ }
+    requires { ⌜ (now handed + waiting) * 38 ≤ length (now output) ⌝ }
+    ensures { λ r. ⌜ SettlesSlots (now (slots .entry))
+        (stage (left own time (now (high .entry)) waiting (now (handed .entry))) places (now (marks .entry)) (now (barrier .entry)) (now (output .entry)))
+        (now (slots .exit))
+        (stage (left own time (now (high .exit)) r (now (handed .exit))) (firstSlots 32) (now (marks .exit)) (now (barrier .exit)) (now (output .exit))) ⌝ }
+{
+    let mut places = places;
+    let still = settle(
+        own,
+        time,
+        waiting,
+        high,
+        handed,
+        &mut places,
+        marks,
+        barrier,
+        slots,
+        output,
+    );
+    gather(slots, &places, still);
+    still
+}

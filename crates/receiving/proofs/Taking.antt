@@ -1,0 +1,135 @@
+-- Laws of taking a message: it is handed if it is ready, and otherwise put behind those that wait. Assumes nothing.
+use Prim.Native.Nat.{ℕ, zero, suc, _+_, _*_, _/_, _≤_, _<_, max}
+use native.Mathlib.Nat.{add-zero}
+use native.Mathlib.Numerals.{add-one}
+use native.Mathlib.Omega.{arith}
+use mathlib.Core.Path.{_≡_, sym, ap, _∙_}
+use mathlib.Core.Logic.{_⊎_, ⊎-elim}
+use mathlib.Core.Bool.{true, false, true≢false}
+use mathlib.Core.List.{List, [], _∷_, _++_, append-nil}
+use lib.ListN.{length, take}
+use lib.Count.{onesIn}
+use Rattle.numbers.specs.Numbers.{bigEndian}
+use Rattle.numbers.specs.Buffer.{over}
+use Rattle.numbers.proofs.Over.{over-nil}
+use Rattle.frame.specs.Message.{Message}
+use Rattle.frame.specs.Reading.{maskIn, messageIn}
+use Rattle.frame.proofs.Passed.{zero-passed}
+use Rattle.rules.specs.Sizes.{width, bufferLength}
+use Rattle.rules.specs.Panel.{Panel, ready}
+use Rattle.rules.specs.Handing.{raise, hand, logRecord, logRecords}
+use Rattle.rules.specs.Settling.{withWaiting}
+use Rattle.slots.specs.Slots.{slotLength, Reads, Slots, Kept, held, firstSlots}
+use Rattle.slots.proofs.Held.{carried-reads}
+use Rattle.slots.proofs.Kept.{listed-order, held-order, slots-put, held-put, kept-put}
+use Rattle.settling.specs.declared.Settling.{Settling}
+use Rattle.settling.specs.Record.{asking, Stage, stage, panelAt, outputPlace}
+use Rattle.receiving.specs.Steps.{taking, handedAtOnce, Taken}
+use Rattle.receiving.proofs.MessageChecks.{ready-asking}
+
+-- ---- what is taken, by whether it is ready
+
+module _ (p : Panel) (m : Message) where
+  taking-ready : ready p m ≡ true → taking p m ≡ hand p m
+  taking-ready e = rw e
+
+  handedAtOnce-ready : ready p m ≡ true → handedAtOnce p m ≡ m ∷ []
+  handedAtOnce-ready e = rw e
+
+  taking-unready : ready p m ≡ false → taking p m ≡ withWaiting p (p .waiting ++ (m ∷ []))
+  taking-unready e = rw e
+
+  handedAtOnce-unready : ready p m ≡ false → handedAtOnce p m ≡ []
+  handedAtOnce-unready e = rw e
+
+-- ---- room
+
+-- where there is room or it is ready, and it is not ready, there is room
+pub room-unready : (p : Panel) (m : Message) (count : ℕ) → (count < 32) ⊎ (ready p m ≡ true) → ready p m ≡ false → count < 32
+room-unready p m count room e = ⊎-elim (λ (lt : count < 32). lt) (λ (t : ready p m ≡ true). absurd (true≢false (sym t ∙ e))) room
+
+onesIn-le : (d n : ℕ) → onesIn d n ≤ d
+unfolding onesIn
+onesIn-le zero n = omega arith
+onesIn-le (suc d) n = omega (arith, onesIn-le d (n / 2))
+
+-- bytes that read as a message have room in a slot
+pub length-reads : (bs : List ℕ) → Reads bs → length bs ≤ bufferLength
+length-reads bs reads =
+    let p = zero-passed width bs reads in
+    omega (arith, p .whole, p .payload, onesIn-le 64 (maskIn width bs))
+
+-- ---- the message of a frame is taken
+
+module _ (s : Settling) (marks barrier slots output frame : List ℕ) (reads : Reads frame) (size : Slots slots) (kept : Kept slots (s .waiting)) where
+  abbrev before : Stage
+  before = stage s (firstSlots 32) marks barrier output
+
+  abbrev m : Message
+  m = messageIn width frame
+
+  -- handed, one more was, and high is this
+  abbrev oneMore : ℕ → Settling
+  oneMore high = record { own = s .own; time = s .time; high = high; waiting = s .waiting; handed = s .handed + 1 }
+
+  -- ready, it is handed
+  handed-now : ready (asking marks (s .time)) m ≡ true
+      → Taken m slots before slots (stage (oneMore (max (s .high) (m .deadline))) (firstSlots 32) (raise marks m) (raise barrier m) (over output (outputPlace s) (logRecord m)))
+  unfolding hand logRecords
+  handed-now e =
+      let p = panelAt slots before in
+      let now-ready = sym (ready-asking p m) ∙ e in
+      let it : handedAtOnce p m ≡ m ∷ [] = handedAtOnce-ready p m now-ready in
+      record {
+        panel = sym (taking-ready p m now-ready);
+        output =
+            ap (over output (outputPlace s)) (sym (append-nil (logRecord m)))
+            ∙ ap (λ (ms : List Message). over output (outputPlace s) (logRecords ms)) (sym it);
+        handed = ap (λ (ms : List Message). s .handed + length ms) (sym it);
+        one-more = omega arith;
+        listed = listed-order slots (s .waiting) kept;
+        size = size;
+      }
+
+  pub taken-handed : ready (asking marks (s .time)) m ≡ true → (high : ℕ) (marksAfter barrierAfter outputAfter : List ℕ)
+      → high ≡ max (s .high) (m .deadline) → marksAfter ≡ raise marks m → barrierAfter ≡ raise barrier m
+      → outputAfter ≡ over output (outputPlace s) (logRecord m)
+      → Taken m slots before slots (stage (oneMore high) (firstSlots 32) marksAfter barrierAfter outputAfter)
+  taken-handed ready high marksAfter barrierAfter outputAfter e em eb eo = rw (e, em, eb, eo) (handed-now ready)
+
+  -- not ready, it is put behind the others
+  module _ (unready : ready (asking marks (s .time)) m ≡ false) (few : s .waiting < 32) where
+    abbrev after : Settling
+    after = record { own = s .own; time = s .time; high = s .high; waiting = s .waiting + 1; handed = s .handed }
+
+    abbrev put : List ℕ
+    put = over slots (s .waiting * slotLength) (bigEndian 2 (length frame) ++ frame)
+
+    kept-after : Kept put (s .waiting + 1)
+    kept-after = rw add-one (kept-put slots (s .waiting) frame size kept few (length-reads frame reads) reads)
+
+    waiting-after : held put (take (s .waiting + 1) (firstSlots 32)) ≡ held slots (take (s .waiting) (firstSlots 32)) ++ (m ∷ [])
+    waiting-after =
+        held-order put (s .waiting + 1) (omega (arith, few))
+        ∙ ap (λ (n : ℕ). held put (firstSlots n)) (add-one (s .waiting))
+        ∙ held-put slots (s .waiting) frame size kept few (length-reads frame reads)
+        ∙ rw (carried-reads frame reads, held-order slots (s .waiting) (kept .few))
+
+    put-last : Taken m slots before put (stage after (firstSlots 32) marks barrier output)
+    unfolding logRecords
+    put-last =
+        let p = panelAt slots before in
+        let not-ready = sym (ready-asking p m) ∙ unready in
+        let none-now : handedAtOnce p m ≡ [] = handedAtOnce-unready p m not-ready in
+        record {
+          panel = ap (withWaiting p) waiting-after ∙ sym (taking-unready p m not-ready);
+          output =
+              sym (ap (λ (ms : List Message). over output (outputPlace s) (logRecords ms)) none-now ∙ over-nil output (outputPlace s));
+          handed = sym (ap (λ (ms : List Message). s .handed + length ms) none-now ∙ add-zero (s .handed));
+          one-more = omega arith;
+          listed = listed-order put (s .waiting + 1) kept-after;
+          size = slots-put slots (s .waiting) frame size kept few (length-reads frame reads);
+        }
+
+    pub taken-waiting : (slotsAfter : List ℕ) → slotsAfter ≡ put → Taken m slots before slotsAfter (stage after (firstSlots 32) marks barrier output)
+    taken-waiting slotsAfter e = rw e put-last

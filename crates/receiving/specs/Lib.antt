@@ -1,0 +1,2 @@
+-- The steps of a receive.
+pub mod Steps

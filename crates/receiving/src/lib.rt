@@ -1,0 +1,169 @@
+// Receive, on a record that is lent. `receive_lent` asks nothing of its caller; what it promises is that of
+// document 01, for every argument.
+use frame::frame_check;
+use parts::Answer;
+use parts::broken;
+use parts::settle_slots;
+use settling::Settling;
+use settling::hand;
+use settling::ready;
+use slots::deadline;
+use slots::in_order;
+use slots::is_waiting;
+use slots::put_frame;
+use slots::source;
+ghost use mathlib.Core.Path.{_≡_};
+ghost use mathlib.Core.Bool.{true};
+ghost use mathlib.Core.Logic.{_⊎_};
+ghost use mathlib.Core.List.{[]};
+ghost use Prim.Native.Nat.{_+_, _*_, _≤_, _<_};
+ghost use lib.ListN.{length};
+ghost use Rattle.frame.specs.Refusal.{firstOf};
+ghost use Rattle.frame.specs.Reading.{messageIn};
+ghost use Rattle.rules.specs.Panel.{ready as isReady};
+ghost use Rattle.rules.specs.Refusals.{messageChecks};
+ghost use Rattle.rules.specs.Results.{Promised, receive};
+ghost use Rattle.slots.specs.Slots.{Reads, Slots, Kept, firstSlots};
+ghost use Rattle.settling.specs.Record.{asking, stage};
+ghost use Rattle.parts.specs.Record.{recordWith, headOf, recordOf, answered, Untouched};
+ghost use Rattle.receiving.specs.Steps.{frameChecksOn, Taken};
+
+// The number of the first check that turns down a frame before its message is looked at, or 0: 26, 10, 1 to 8.
+fn frame_number(broken: bool, output: usize, frame: &[u8]) -> u8
+    ensures { λ r. ⌜ r ≡ firstOf (frameChecksOn broken output (now (frame .entry))) ⌝ }
+{
+    if broken {
+        return 26; // the record is broken
+    }
+    if output < 1254 {
+        return 10; // the output is short
+    }
+    frame_check(frame)
+}
+
+// The number of the first check that turns down a message that was read, or 0: 20, 21, 22, 23.
+fn message_number<'a, 'b>(
+    own: u8,
+    time: u32,
+    count: usize,
+    marks: &'a [u32; 64],
+    slots: &'a [u8],
+    frame: &'b [u8],
+) -> u8
+    requires { ⌜ Reads (now frame) × Slots (now slots) × Kept (now slots) count ⌝ }
+    ensures { λ r. ⌜ r ≡ firstOf (messageChecks (recordWith own time 0 (now (marks .entry)) [] (now (slots .entry)) count)
+        (messageIn 4 (now (frame .entry)))) ⌝ }
+{
+    let from = source(frame);
+    let due = deadline(frame);
+    let mark = marks[from as usize];
+    if from == own {
+        return 20; // its source is the own number
+    }
+    if due < time {
+        return 21; // it has lapsed
+    }
+    if due <= mark {
+        return 22; // its deadline is at most its source's mark
+    }
+    if is_waiting(frame, slots, count) {
+        return 22; // it is waiting already
+    }
+    if count < 32 {
+        return 0;
+    }
+    if ready(frame, marks, time) {
+        return 0;
+    }
+    23 // 32 are waiting and it is not ready
+}
+
+// Takes the message of a readable frame: a ready one is handed without entering the list, any other
+// goes to its end.
+fn take(
+    s: Settling,
+    marks: &mut [u32; 64],
+    barrier: &mut [u32; 64],
+    slots: &mut [u8; 9888],
+    frame: &[u8],
+    output: &mut [u8],
+) -> Settling
+    requires { ⌜ Reads (now frame) × Slots (now slots) × Kept (now slots) (s .waiting) ⌝ }
+    requires { ⌜ (s .waiting < 32) ⊎ (isReady (asking (now marks) (s .time)) (messageIn 4 (now frame)) ≡ true) ⌝ }
+    requires { ⌜ s .handed * 38 + 38 ≤ length (now output) ⌝ }
+    ensures { λ r. ⌜ Taken (messageIn 4 (now (frame .entry)))
+        (now (slots .entry)) (stage s (firstSlots 32) (now (marks .entry)) (now (barrier .entry)) (now (output .entry)))
+        (now (slots .exit)) (stage r (firstSlots 32) (now (marks .exit)) (now (barrier .exit)) (now (output .exit))) ⌝ }
+{
+    if ready(frame, marks, s.time) {
+        let mut rest = s;
+        rest.high = hand(s.high, s.handed, marks, barrier, frame, output);
+        rest.handed += 1;
+        return rest;
+    }
+    put_frame(slots, s.waiting, frame);
+    let mut rest = s;
+    rest.waiting += 1;
+    rest
+}
+
+// A frame is received: the log records stand in the output.
+pub fn receive_lent(
+    own: u8,
+    time: &mut u32,
+    high: &mut u32,
+    count: &mut usize,
+    marks: &mut [u32; 64],
+    barrier: &mut [u32; 64],
+    slots: &mut [u8; 9888],
+    frame: &[u8],
+    output: &mut [u8],
+) -> Answer
+    ensures { λ r. ⌜ Promised (recordOf (headOf own (now (time .entry)) (now (high .entry)) (now (count .entry))) (now (marks .entry)) (now (barrier .entry)) (now (slots .entry)))
+        (receive (now (frame .entry)) (now (output .entry)))
+        (answered r (recordOf (headOf own (now (time .exit)) (now (high .exit)) (now (count .exit))) (now (marks .exit)) (now (barrier .exit)) (now (slots .exit)))
+        (now (output .exit)) []) ⌝ }
+    ensures { λ r. ⌜ Untouched (r .number) (headOf own (now (time .entry)) (now (high .entry)) (now (count .entry))) (headOf own (now (time .exit)) (now (high .exit)) (now (count .exit)))
+        (now (marks .entry)) (now (marks .exit)) (now (barrier .entry)) (now (barrier .exit)) (now (slots .entry)) (now (slots .exit)) ⌝ }
+{
+    let broken = broken(own, *high, *count, marks, barrier, slots);
+    let mut number = frame_number(broken, output.len(), frame);
+    if number == 0 {
+        number = message_number(own, *time, *count, marks, slots, frame);
+    }
+    if number != 0 {
+        return Answer {
+            count: 0,
+            length: 0,
+            number,
+        };
+    }
+    let begun = Settling {
+        own,
+        time: *time,
+        high: *high,
+        waiting: *count,
+        handed: 0,
+    };
+    let left = take(begun, marks, barrier, slots, frame, output);
+    let places = in_order();
+    *high = left.high;
+    let mut handed = left.handed;
+    *count = settle_slots(
+        left.own,
+        left.time,
+        left.waiting,
+        high,
+        &mut handed,
+        places,
+        marks,
+        barrier,
+        slots,
+        output,
+    );
+    Answer {
+        count: handed,
+        length: 0,
+        number: 0,
+    }
+}

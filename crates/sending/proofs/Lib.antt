@@ -1,0 +1,3 @@
+-- Laws of a send: the lifetime, and its answer.
+pub mod Lifetime
+pub mod SendDone

@@ -1,0 +1,2 @@
+-- The checks of a send.
+pub mod Checks

@@ -1,0 +1,109 @@
+// Send, on a record that is lent. `send_lent` asks nothing of its caller; what it promises is that of
+// document 01, for every argument.
+use frame::write;
+use parts::Answer;
+use parts::broken;
+use parts::settle_slots;
+use settling::hand;
+use slots::in_order;
+ghost use mathlib.Core.Path.{_≡_};
+ghost use mathlib.Core.List.{[]};
+ghost use Rattle.frame.specs.Refusal.{firstOf};
+ghost use Rattle.rules.specs.Calls.{sendDeadline};
+ghost use Rattle.rules.specs.Results.{Promised, send};
+ghost use Rattle.parts.specs.Record.{recordWith, headOf, recordOf, answered, Untouched};
+ghost use Rattle.sending.specs.Checks.{sendChecksOn};
+
+// The larger of time + lifetime and high + 1; lifetime 0 means 1,200.
+fn send_deadline(time: u32, high: u32, lifetime: u16) -> u64
+    ensures { λ r. ⌜ r ≡ sendDeadline (recordWith 0 time high [] [] [] 0) lifetime ⌝ }
+{
+    let mut by_time = time as u64 + lifetime as u64;
+    if lifetime == 0 {
+        by_time = time as u64 + 1200;
+    }
+    let by_high = high as u64 + 1;
+    if by_time < by_high {
+        return by_high;
+    }
+    by_time
+}
+
+// The number of the first check that turns down a send, or 0: 26, 10, 9, 24.
+fn send_number(broken: bool, output: usize, buffer: usize, payload: usize, deadline: u64) -> u8
+    ensures { λ r. ⌜ r ≡ firstOf (sendChecksOn broken output buffer payload deadline) ⌝ }
+{
+    if broken {
+        return 26; // the record is broken
+    }
+    if output < 1254 {
+        return 10; // the output is short
+    }
+    if buffer < 307 {
+        return 10; // the frame buffer is short
+    }
+    if 32 < payload {
+        return 9; // the payload is too long
+    }
+    if 4294967295 < deadline {
+        return 24; // the deadline would pass the last one
+    }
+    0
+}
+
+// A payload is sent with a lifetime: its frame stands in the buffer, and the log records in the output.
+pub fn send_lent(
+    own: u8,
+    time: &mut u32,
+    high: &mut u32,
+    count: &mut usize,
+    marks: &mut [u32; 64],
+    barrier: &mut [u32; 64],
+    slots: &mut [u8; 9888],
+    payload: &[u8],
+    lifetime: u16,
+    output: &mut [u8],
+    buffer: &mut [u8],
+) -> Answer
+    ensures { λ r. ⌜ Promised (recordOf (headOf own (now (time .entry)) (now (high .entry)) (now (count .entry))) (now (marks .entry)) (now (barrier .entry)) (now (slots .entry)))
+        (send (now (payload .entry)) lifetime (now (output .entry)) (now (buffer .entry)))
+        (answered r (recordOf (headOf own (now (time .exit)) (now (high .exit)) (now (count .exit))) (now (marks .exit)) (now (barrier .exit)) (now (slots .exit)))
+        (now (output .exit)) (now (buffer .exit))) ⌝ }
+    ensures { λ r. ⌜ Untouched (r .number) (headOf own (now (time .entry)) (now (high .entry)) (now (count .entry))) (headOf own (now (time .exit)) (now (high .exit)) (now (count .exit)))
+        (now (marks .entry)) (now (marks .exit)) (now (barrier .entry)) (now (barrier .exit)) (now (slots .entry)) (now (slots .exit)) ⌝ }
+{
+    let broken = broken(own, *high, *count, marks, barrier, slots);
+    let deadline = send_deadline(*time, *high, lifetime);
+    let number = send_number(broken, output.len(), buffer.len(), payload.len(), deadline);
+    if number != 0 {
+        return Answer {
+            count: 0,
+            length: 0,
+            number,
+        };
+    }
+    let entries = *barrier;
+    *barrier = [0u32; 64];
+    let length = write(own, deadline as u32, entries, payload, buffer);
+    let frame = &buffer[0..length];
+    *high = hand(*high, 0, marks, barrier, frame, output);
+    let places = in_order();
+    let mut handed = 1;
+    *count = settle_slots(
+        own,
+        *time,
+        *count,
+        high,
+        &mut handed,
+        places,
+        marks,
+        barrier,
+        slots,
+        output,
+    );
+    Answer {
+        count: handed,
+        length,
+        number: 0,
+    }
+}

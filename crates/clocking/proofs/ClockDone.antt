@@ -16,7 +16,7 @@ use Rattle.slots.specs.Moves.{Alive}
 use Rattle.slots.specs.declared.Places.{Places}
 use Rattle.settling.specs.declared.Settling.{Settling}
 use Rattle.settling.specs.Record.{Stage, stage, panelAt}
-use Rattle.parts.specs.Record.{Head, recordOf, SettlesSlots}
+use Rattle.parts.specs.Record.{Parts, recordOf, SettlesSlots}
 use Rattle.parts.proofs.Answering.{settled-promised}
 use Rattle.clocking.specs.Checks.{clockChecksOn}
 
@@ -24,27 +24,27 @@ pub clockChecks-on : (p : Record) (time : ℕ) (output : List ℕ) → clockChec
 unfolding clockChecks
 clockChecks-on p time output = refl
 
-module _ (head : Head) (marks barrier slots : List ℕ) (time : ℕ) (output : List ℕ) (kept : Places) (alive : Alive slots (head .count) time kept) where
+module _ (p : Parts) (time : ℕ) (output : List ℕ) (kept : Places) (alive : Alive (p .slots) (p .count) time kept) where
   abbrev given : Record
-  given = recordOf head marks barrier slots
+  given = recordOf p
 
   -- the record with its time set and the lapsed dropped, as it begins to settle
   abbrev pub begun : Settling
-  begun = record { own = head .own; time = time; high = head .high; waiting = kept .count; handed = 0 }
+  begun = record { own = p .own; time = time; high = p .high; waiting = kept .count; handed = 0 }
 
   abbrev pub begunStage : Stage
-  begunStage = stage begun (kept .slots) marks barrier output
+  begunStage = stage begun (kept .slots) (p .marks) (p .barrier) output
 
-  panel-begun : panelAt slots begunStage ≡ dropLapsed (withTime given time)
+  panel-begun : panelAt (p .slots) begunStage ≡ dropLapsed (withTime given time)
   panel-begun = ap (λ (ms : List Message). withWaiting (withTime given time) ms) (alive .messages (withTime given time) refl)
 
   pub clocked-done : (slots′ : List ℕ) (after : Stage) (back : Record) → firstOf (clockChecks given time output) ≡ 0
-      → SettlesSlots slots begunStage slots′ after → back ≡ settle (panelAt slots begunStage) .panel
+      → SettlesSlots (p .slots) begunStage slots′ after → back ≡ settle (panelAt (p .slots) begunStage) .panel
       → Promised given (clock time output)
       (record { number = 0; panel = back; count = after .left .handed; output = after .output; frameLength = 0; buffer = [] })
   unfolding clocking logRecords
   clocked-done slots′ after back passed settles e =
-      settled-promised given (clock time output) passed slots [] begunStage slots′ after settles
+      settled-promised given (clock time output) passed (p .slots) [] begunStage slots′ after settles
       (ap settle (sym panel-begun))
       (sym (over-nil output 0))
       refl

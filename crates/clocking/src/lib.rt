@@ -1,5 +1,6 @@
-// Clock, on a record that is lent. The function asks nothing of its caller; what it promises is that of
-// document 01, for every argument.
+// Clock, in place on a lent record. Of the record it may touch time, high, count, marks, barrier and
+// slots, and beside it the output; the own number it only reads. `clock_in_place` asks nothing of its
+// caller; what it promises is document 01's clock, for every argument.
 use parts::Answer;
 use parts::broken;
 use parts::settle_slots;
@@ -7,8 +8,8 @@ use slots::alive;
 ghost use mathlib.Core.Path.{_≡_};
 ghost use mathlib.Core.List.{[]};
 ghost use Rattle.frame.specs.Refusal.{firstOf};
-ghost use Rattle.rules.specs.Results.{Promised, clock};
-ghost use Rattle.parts.specs.Record.{headOf, recordOf, answered, Untouched};
+ghost use Rattle.rules.specs.Results.{clock};
+ghost use Rattle.parts.specs.Record.{parts, PromisedInPlace};
 ghost use Rattle.clocking.specs.Checks.{clockChecksOn};
 
 // The number of the first check that turns down a clock reading, or 0: 26, 10, 25.
@@ -28,7 +29,7 @@ fn clock_number(broken: bool, output: usize, reading: u32, time: u32) -> u8
 }
 
 // The clock shows a time: the log records stand in the output.
-pub fn clock_lent(
+pub fn clock_in_place(
     own: u8,
     time: &mut u32,
     high: &mut u32,
@@ -39,12 +40,11 @@ pub fn clock_lent(
     reading: u32,
     output: &mut [u8],
 ) -> Answer
-    ensures { λ r. ⌜ Promised (recordOf (headOf own (now (time .entry)) (now (high .entry)) (now (count .entry))) (now (marks .entry)) (now (barrier .entry)) (now (slots .entry)))
-        (clock reading (now (output .entry)))
-        (answered r (recordOf (headOf own (now (time .exit)) (now (high .exit)) (now (count .exit))) (now (marks .exit)) (now (barrier .exit)) (now (slots .exit)))
-        (now (output .exit)) []) ⌝ }
-    ensures { λ r. ⌜ Untouched (r .number) (headOf own (now (time .entry)) (now (high .entry)) (now (count .entry))) (headOf own (now (time .exit)) (now (high .exit)) (now (count .exit)))
-        (now (marks .entry)) (now (marks .exit)) (now (barrier .entry)) (now (barrier .exit)) (now (slots .entry)) (now (slots .exit)) ⌝ }
+    ensures { λ r. ⌜ PromisedInPlace
+        (parts own (now (time .entry)) (now (high .entry)) (now (count .entry)) (now (marks .entry)) (now (barrier .entry)) (now (slots .entry)))
+        (clock reading (now (output .entry))) r
+        (parts own (now (time .exit)) (now (high .exit)) (now (count .exit)) (now (marks .exit)) (now (barrier .exit)) (now (slots .exit)))
+        (now (output .exit)) [] ⌝ }
 {
     let broken = broken(own, *high, *count, marks, barrier, slots);
     let number = clock_number(broken, output.len(), reading, *time);

@@ -1,4 +1,4 @@
--- A call by value, over that on a lent record. Assumes nothing.
+-- A call by value, over that in place. Assumes nothing.
 use mathlib.Core.Path.{_≡_, refl, sym, ap, _∙_}
 use mathlib.Core.List.{List, []}
 use Prim.Native.Nat.{ℕ}
@@ -6,32 +6,26 @@ use lib.ListN.{length}
 use Rattle.rules.specs.Panel.{Panel as Record}
 use Rattle.rules.specs.Results.{Call, frameOf, Result, refused, done, defined, Promised}
 use Rattle.rules.proofs.Results.{defined-both}
-use Rattle.parts.specs.Record.{Head, headOf, Untouched}
+use Rattle.parts.specs.Record.{Parts}
 use Rattle.panel.specs.declared.Panel.{Panel}
-use Rattle.panel.specs.Record.{GivenBack}
+use Rattle.panel.specs.Record.{partsOf, GivenBack}
 
--- the numbers of the struct, and the struct of numbers and arrays
-abbrev pub numbersOf : Panel → Head
-numbersOf p = headOf (p .own) (p .time) (p .high) (p .count)
-
-abbrev pub panelOf : Head → List ℕ → List ℕ → List ℕ → Panel
-panelOf head marks barrier slots =
+-- the struct of these parts
+abbrev pub panelOf : Parts → Panel
+panelOf p =
     record {
-      own = head .own;
-      time = head .time;
-      high = head .high;
-      count = head .count;
-      marks = marks;
-      barrier = barrier;
-      slots = slots;
+      own = p .own;
+      time = p .time;
+      high = p .high;
+      count = p .count;
+      marks = p .marks;
+      barrier = p .barrier;
+      slots = p .slots;
     }
 
--- what is untouched is given back
-pub given-back : (number : ℕ) (p : Panel) (head : Head) (marks barrier slots : List ℕ)
-    → Untouched number (numbersOf p) head (p .marks) marks (p .barrier) barrier (p .slots) slots
-    → GivenBack number p (panelOf head marks barrier slots)
-given-back number p head marks barrier slots untouched refuses =
-    let (h, m, b, s) = untouched refuses in rw (h, m, b, s)
+-- parts left as they were make the struct that was given
+pub given-back : (number : ℕ) (p : Panel) (after : Parts) → ((number ≡ 0 → ⊥) → after ≡ partsOf p) → GivenBack number p (panelOf after)
+given-back number p after same refuses = ap panelOf (same refuses)
 
 -- a call that writes no frame answers a frame length of 0
 no-frame : (p : Record) (call : Call) → frameOf p call ≡ [] → defined p call .frameLength ≡ 0

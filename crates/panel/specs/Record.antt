@@ -1,10 +1,14 @@
--- The record that the struct holds, and what the answers say.
+-- The record that the struct holds, what the answers of the calls by value say, and what a fresh panel in place is.
 use Prim.Native.Nat.{ℕ}
 use mathlib.Core.Path.{_≡_}
 use mathlib.Core.List.{List, []}
+use lib.ListN.{replicate}
 use Rattle.rules.specs.Panel.{Panel as Record}
 use Rattle.rules.specs.Results.{Result}
-use Rattle.parts.specs.Record.{recordWith}
+use Rattle.rules.specs.Refusals.{freshNumber, freshRecord}
+use Rattle.slots.specs.Slots.{slotsLength}
+use Rattle.parts.specs.Record.{Parts, parts}
+use Rattle.parts.specs.Record.{recordOf as recordIn}
 use Rattle.panel.specs.declared.Panel.{Panel}
 use Rattle.panel.specs.declared.Sent.{Sent}
 use Rattle.panel.specs.declared.Received.{Received}
@@ -12,11 +16,19 @@ use Rattle.panel.specs.declared.Clocked.{Clocked}
 
 -- ---- the record
 
--- the record that the struct holds
-abbrev pub recordOf : Panel → Record
-recordOf p = recordWith (p .own) (p .time) (p .high) (p .marks) (p .barrier) (p .slots) (p .count)
+-- the parts of the struct, and the record that it holds
+abbrev pub partsOf : Panel → Parts
+partsOf p = parts (p .own) (p .time) (p .high) (p .count) (p .marks) (p .barrier) (p .slots)
 
--- ---- the answers: what a call has answered, given back, and left in the buffers lent to it
+abbrev pub recordOf : Panel → Record
+recordOf p = recordIn (partsOf p)
+
+-- what fresh answers in place, and leaves in the parts: the record that document 01 gives for that number, and slots of zeros
+abbrev pub FreshInPlace : ℕ → ℕ → Parts → Type 0
+FreshInPlace number answer after =
+    (answer ≡ freshNumber number) × (recordIn after ≡ freshRecord number) × (after .slots ≡ replicate slotsLength 0)
+
+-- ---- the answers of the calls by value: what a call has answered, given back, and left in the buffers lent to it
 
 abbrev pub sentResult : Sent → List ℕ → List ℕ → Result
 sentResult answer output buffer =

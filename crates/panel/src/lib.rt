@@ -1,17 +1,16 @@
-// The panel: its record, and the calls fresh, send, receive and clock, by value and on a record that is
-// lent in parts. No public function asks anything of its caller; what each promises is that of document
-// 01, for every argument.
-mod lent;
+// The panel: its record as a struct, and the calls fresh, send, receive and clock, by value for callers
+// in Rattle (thin over those in place) and in place for C. No public function asks anything of its
+// caller; what each promises is that of document 01, for every argument.
+mod exports;
 
-use clocking::clock_lent;
-pub use lent::panel_clock_lent;
-pub use lent::panel_fresh_lent;
-pub use lent::panel_receive_lent;
-pub use lent::panel_send_lent;
-use receiving::receive_lent;
-use sending::send_lent;
+use clocking::clock_in_place;
+pub use exports::panel_clock_parts;
+pub use exports::panel_fresh_parts;
+pub use exports::panel_receive_parts;
+pub use exports::panel_send_parts;
+use receiving::receive_in_place;
+use sending::send_in_place;
 ghost use mathlib.Core.Path.{_≡_};
-ghost use Rattle.rules.specs.Panel.{fresh as freshPanel};
 ghost use Rattle.rules.specs.Refusals.{freshNumber, freshRecord};
 ghost use Rattle.rules.specs.Results.{Promised, send, receive, clock};
 ghost use Rattle.panel.specs.Record.{recordOf, sentResult, receivedResult, clockedResult, GivenBack};
@@ -59,37 +58,39 @@ pub struct Clocked {
     pub number: u8,
 }
 
-// The panel of that number, fresh.
-fn fresh_panel(own: u8) -> Panel
-    ensures { λ r. ⌜ recordOf r ≡ freshPanel own ⌝ }
+// A fresh panel; for a number above 63 it is panel 0, with 11.
+pub fn panel_fresh(number: u8) -> Fresh
+    ensures { λ r. ⌜ (r .number ≡ freshNumber number) × (recordOf (r .panel) ≡ freshRecord number) ⌝ }
 {
-    let marks = [0u32; 64];
-    let barrier = [0u32; 64];
-    let slots = [0u8; 9888];
-    Panel {
+    let mut own = 0;
+    let mut at = 0;
+    let mut high = 0;
+    let mut count = 0;
+    let mut marks = [0u32; 64];
+    let mut barrier = [0u32; 64];
+    let mut slots = [0u8; 9888];
+    let answer = panel_fresh_parts(
+        number,
+        &mut own,
+        &mut at,
+        &mut high,
+        &mut count,
+        &mut marks,
+        &mut barrier,
+        &mut slots,
+    );
+    let panel = Panel {
         own,
-        time: 0,
-        high: 0,
-        count: 0,
+        time: at,
+        high,
+        count,
         marks,
         barrier,
         slots,
-    }
-}
-
-// A fresh panel; for a number above 63 it is panel 0, with 11.
-pub fn panel_fresh(own: u8) -> Fresh
-    ensures { λ r. ⌜ (r .number ≡ freshNumber own) × (recordOf (r .panel) ≡ freshRecord own) ⌝ }
-{
-    if 63 < own {
-        return Fresh {
-            number: 11,
-            panel: fresh_panel(0),
-        };
-    }
+    };
     Fresh {
-        number: 0,
-        panel: fresh_panel(own),
+        panel,
+        number: answer,
     }
 }
 
@@ -105,14 +106,13 @@ pub fn panel_send<'a, 'b, 'c>(
         (sentResult r (now (output .exit)) (now (buffer .exit))) ⌝ }
     ensures { λ r. ⌜ GivenBack (r .number) p (r .panel) ⌝ }
 {
-    let mut at = p.time;
     let mut high = p.high;
     let mut count = p.count;
     let mut marks = p.marks;
     let mut barrier = p.barrier;
-    let answer = send_lent(
+    let answer = send_in_place(
         p.own,
-        &mut at,
+        p.time,
         &mut high,
         &mut count,
         &mut marks,
@@ -123,7 +123,6 @@ pub fn panel_send<'a, 'b, 'c>(
         output,
         buffer,
     );
-    p.time = at;
     p.high = high;
     p.count = count;
     p.marks = marks;
@@ -141,14 +140,13 @@ pub fn panel_receive<'a, 'b>(mut p: Panel, frame: &'a [u8], output: &'b mut [u8]
     ensures { λ r. ⌜ Promised (recordOf p) (receive (now (frame .entry)) (now (output .entry))) (receivedResult r (now (output .exit))) ⌝ }
     ensures { λ r. ⌜ GivenBack (r .number) p (r .panel) ⌝ }
 {
-    let mut at = p.time;
     let mut high = p.high;
     let mut count = p.count;
     let mut marks = p.marks;
     let mut barrier = p.barrier;
-    let answer = receive_lent(
+    let answer = receive_in_place(
         p.own,
-        &mut at,
+        p.time,
         &mut high,
         &mut count,
         &mut marks,
@@ -157,7 +155,6 @@ pub fn panel_receive<'a, 'b>(mut p: Panel, frame: &'a [u8], output: &'b mut [u8]
         frame,
         output,
     );
-    p.time = at;
     p.high = high;
     p.count = count;
     p.marks = marks;
@@ -179,7 +176,7 @@ pub fn panel_clock(mut p: Panel, time: u32, output: &mut [u8]) -> Clocked
     let mut count = p.count;
     let mut marks = p.marks;
     let mut barrier = p.barrier;
-    let answer = clock_lent(
+    let answer = clock_in_place(
         p.own,
         &mut at,
         &mut high,

@@ -23,7 +23,7 @@ use Rattle.slots.specs.Moves.{Gathered}
 use Rattle.slots.proofs.Kept.{kept-readable, held-gathered}
 use Rattle.settling.specs.Record.{Stage, stage, panelAt, outputPlace, Settles}
 use Rattle.settling.specs.declared.Settling.{Settling}
-use Rattle.parts.specs.Record.{recordWith, Head, recordOf, SettlesSlots}
+use Rattle.parts.specs.Record.{Parts, parts, recordOf, PromisedInPlace, SettlesSlots}
 
 -- ---- turned down
 
@@ -33,13 +33,19 @@ refused-promised p call number e refuses =
     let same : number ≡ defined p call .number = e ∙ sym (defined-number p call) in
     ap (refused p (outputOf call) (bufferOf call)) same ∙ sym (refusal-unchanged p call (λ z. refuses (same ∙ z)))
 
+-- in place the parts are left as they were
+pub refused-in-place : (p : Parts) (call : Call) (number : ℕ) → number ≡ firstOf (checksOf (recordOf p) call) → (number ≡ 0 → ⊥)
+    → PromisedInPlace p call (record { count = 0; length = 0; number = number }) p (outputOf call) (bufferOf call)
+unfolding refused
+refused-in-place p call number e refuses = (refused-promised (recordOf p) call number e refuses, λ _. refl)
+
 -- ---- done
 
 -- a record that 26 lets through has readable frames in its first slots
-pub valid-kept : (head : Head) (marks barrier slots : List ℕ) → Valid (recordOf head marks barrier slots) → Kept slots (head .count)
-valid-kept head marks barrier slots valid =
-    kept-readable slots (head .count) (omega (arith, valid .count, length-firstSlots slots (head .count)))
-    (true-eachReadable (held slots (firstSlots (head .count))) (valid .waiting))
+pub valid-kept : (p : Parts) → Valid (recordOf p) → Kept (p .slots) (p .count)
+valid-kept p valid =
+    kept-readable (p .slots) (p .count) (omega (arith, valid .count, length-firstSlots (p .slots) (p .count)))
+    (true-eachReadable (held (p .slots) (firstSlots (p .count))) (valid .waiting))
 
 -- the record has settled, and the frames in the slots listed have moved up to the first slots
 pub settles-slots : (slots : List ℕ) (begun : Stage) (s : Settling) (places marks barrier output after : List ℕ)
@@ -52,7 +58,7 @@ settles-slots slots begun s places marks barrier output after settles long gathe
     let held-now = held-gathered slots places (s .waiting) after (omega (arith, settles .listed .few, settles .long)) gathered in
     record {
       panel =
-          ap₂ (λ (o t : ℕ). recordWith o t (s .high) marks barrier after (s .waiting)) (sym own) (sym time)
+          ap₂ (λ (o t : ℕ). recordOf (parts o t (s .high) (s .waiting) marks barrier after)) (sym own) (sym time)
           ∙ ap (withWaiting (panelAt slots (stage s places marks barrier output))) held-now
           ∙ settles .panel;
       output = settles .output;

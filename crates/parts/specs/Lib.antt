@@ -1,2 +1,2 @@
--- The record in parts, what the calls' answers say, and what settling its slots ensures.
+-- The record in its parts, what a call in place promises, and what settling the slots ensures.
 pub mod Record

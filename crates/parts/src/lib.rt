@@ -1,5 +1,12 @@
-// The record in parts, as the calls have it lent. What the calls have in common: refusal 26, and settling the record. An internal crate:
-// its functions ask their callers for slots, places and room, and the calls of a panel give them.
+// What the calls share: the record in the parts that it is lent in, their answer, refusal 26, and
+// settling the slots. `broken` reads the record and changes nothing; `settle_slots` changes high,
+// marks, barrier, slots and output. An internal crate: its functions ask their callers for slots,
+// places and room, and the calls give them.
+//
+// A record is lent in its parts, and not as a struct, since the prover walks no function with a
+// reference to a struct. So the calls have long lists of parameters, always in the order of the
+// record: own, time, high, count, marks, barrier, slots. A part that a call never changes is given
+// by value, if it is a number.
 use settling::settle;
 use slots::all_read;
 use slots::gather;
@@ -10,11 +17,11 @@ ghost use Rattle.frame.specs.Readable.{eachBelow};
 ghost use Rattle.rules.specs.Refusals.{broken as isBroken};
 ghost use Rattle.slots.specs.Slots.{Slots, Listed, firstSlots};
 ghost use Rattle.settling.specs.Record.{left, stage};
-ghost use Rattle.parts.specs.Record.{recordWith, SettlesSlots};
+ghost use Rattle.parts.specs.Record.{parts, recordOf, SettlesSlots};
 
-// The answer of a call: number is 0, or that of a refusal, with count and length 0, and everything that
-// was lent as it was. count is that of the log records in the output, length that of the frame that a
-// send wrote to its buffer.
+// The answer of a call in place: number is 0, or that of a refusal, with count and length 0 and all
+// that was lent as it was. count is that of the log records in the output, length that of the frame
+// that a send wrote to its buffer.
 #[repr(C)]
 pub struct Answer {
     pub count: usize,
@@ -50,7 +57,7 @@ pub fn broken<'a>(
     slots: &'a [u8],
 ) -> bool
     requires { ⌜ (length (now marks) ≡ 64) × (length (now barrier) ≡ 64) × Slots (now slots) ⌝ }
-    ensures { λ r. ⌜ r ≡ isBroken (recordWith own 0 high (now (marks .entry)) (now (barrier .entry)) (now (slots .entry)) count) ⌝ }
+    ensures { λ r. ⌜ r ≡ isBroken (recordOf (parts own 0 high count (now (marks .entry)) (now (barrier .entry)) (now (slots .entry)))) ⌝ }
 {
     if 63 < own {
         return true;

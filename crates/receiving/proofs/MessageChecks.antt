@@ -14,7 +14,7 @@ use Rattle.rules.specs.Panel.{Panel, lapsed, met, ready}
 use Rattle.rules.specs.Refusals.{isWaiting, messageChecks}
 use Rattle.slots.proofs.Held.{length-firstSlots}
 use Rattle.settling.specs.Record.{asking}
-use Rattle.parts.specs.Record.{recordWith}
+use Rattle.parts.specs.Record.{parts, recordOf}
 
 -- ready asks for the marks and the time alone
 pub ready-asking : (p : Panel) (m : Message) → ready (asking (p .marks) (p .time)) m ≡ ready p m
@@ -27,7 +27,7 @@ and-false false b e = refl
 
 module _ (own time : ℕ) (marks slots : List ℕ) (count : ℕ) (m : Message) where
   abbrev panel : Panel
-  panel = recordWith own time 0 marks [] slots count
+  panel = recordOf (parts own time 0 count marks [] slots)
 
   abbrev table : List (Bool × ℕ)
   table = messageChecks panel m

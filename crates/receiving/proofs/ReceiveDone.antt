@@ -24,20 +24,18 @@ use Rattle.slots.proofs.Held.{length-firstSlots}
 use Rattle.slots.proofs.Kept.{held-order}
 use Rattle.settling.specs.Record.{asking, Stage, stage, panelAt}
 use Rattle.settling.proofs.Holding.{length-readable}
-use Rattle.parts.specs.Record.{recordWith, Head, recordOf, SettlesSlots}
+use Rattle.parts.specs.Record.{Parts, parts, recordOf, SettlesSlots}
 use Rattle.receiving.specs.Steps.{taking, handedAtOnce, Taken}
 use Rattle.receiving.proofs.MessageChecks.{ready-asking}
 use Rattle.parts.proofs.Answering.{afterwards, settled-promised}
 
 -- the record as it begins, with what is lent beside the slots: all of the first slots are listed, nothing was handed
-abbrev pub begunStage : Head → List ℕ → List ℕ → List ℕ → Stage
-begunStage head marks barrier output =
-    stage (record { own = head .own; time = head .time; high = head .high; waiting = head .count; handed = 0 }) (firstSlots 32) marks barrier output
+abbrev pub begunStage : Parts → List ℕ → Stage
+begunStage p output =
+    stage (record { own = p .own; time = p .time; high = p .high; waiting = p .count; handed = 0 }) (firstSlots 32) (p .marks) (p .barrier) output
 
-panel-started : (head : Head) (marks barrier slots output : List ℕ) → Kept slots (head .count)
-    → panelAt slots (begunStage head marks barrier output) ≡ recordOf head marks barrier slots
-panel-started head marks barrier slots output kept =
-    ap (λ (ms : List Message). withWaiting (recordOf head marks barrier slots) ms) (held-order slots (head .count) (kept .few))
+panel-started : (p : Parts) (output : List ℕ) → Kept (p .slots) (p .count) → panelAt (p .slots) (begunStage p output) ≡ recordOf p
+panel-started p output kept = ap (λ (ms : List Message). withWaiting (recordOf p) ms) (held-order (p .slots) (p .count) (kept .few))
 
 -- to receive is to take the message and to settle
 receiving-taking : (p : Record) (m : Message) → receiving p m ≡ afterwards (handedAtOnce p m) (settle (taking p m))
@@ -77,35 +75,35 @@ length-atOnce p bytes reads = go (ready p (messageIn width bytes))
     go false = refl
 
 -- 32 are not waiting, or the message is ready
-pub room : (head : Head) (marks barrier slots bytes output : List ℕ) → firstOf (receiveChecks (recordOf head marks barrier slots) bytes output) ≡ 0
-    → (head .count < 32) ⊎ (ready (asking marks (head .time)) (messageIn width bytes) ≡ true)
-room head marks barrier slots bytes output passed =
-    let p = recordOf head marks barrier slots in
-    ⊎-elim (λ (l : length (held slots (firstSlots (head .count))) < 32). inl (omega (arith, length-firstSlots slots (head .count))))
-    (λ r. inr (ready-asking p (messageIn width bytes) ∙ r)) (receive-passed p bytes output passed .room)
+pub room : (p : Parts) (bytes output : List ℕ) → firstOf (receiveChecks (recordOf p) bytes output) ≡ 0
+    → (p .count < 32) ⊎ (ready (asking (p .marks) (p .time)) (messageIn width bytes) ≡ true)
+room p bytes output passed =
+    ⊎-elim (λ (l : length (held (p .slots) (firstSlots (p .count))) < 32). inl (omega (arith, length-firstSlots (p .slots) (p .count))))
+    (λ r. inr (ready-asking (recordOf p) (messageIn width bytes) ∙ r)) (receive-passed (recordOf p) bytes output passed .room)
 
-module _ (head : Head) (marks barrier slots bytes output : List ℕ) (kept : Kept slots (head .count)) (reads : Reads bytes) (slots′ : List ℕ)
-    (begun : Stage) (taken : Taken (messageIn width bytes) slots (begunStage head marks barrier output) slots′ begun)
+module _ (p : Parts) (bytes output : List ℕ) (kept : Kept (p .slots) (p .count)) (reads : Reads bytes) (slots′ : List ℕ) (begun : Stage)
+    (taken : Taken (messageIn width bytes) (p .slots) (begunStage p output) slots′ begun)
     (slots″ : List ℕ) (after : Stage) (settles : SettlesSlots slots′ begun slots″ after) where
-  -- the record given back has the own number and the time that it came with
-  given-back : recordWith (head .own) (head .time) (after .left .high) (after .marks) (after .barrier) slots″ (after .left .waiting)
-      ≡ settle (panelAt slots′ begun) .panel
-  given-back = rw (← taken-own taken, ← taken-time taken) (settles .panel)
+  -- the record left has the own number and the time that it came with
+  abbrev pub leftBehind : Record
+  leftBehind = recordOf (parts (p .own) (p .time) (after .left .high) (after .left .waiting) (after .marks) (after .barrier) slots″)
 
-  pub received-done : (back : Record) → firstOf (receiveChecks (recordOf head marks barrier slots) bytes output) ≡ 0
-      → back ≡ recordWith (head .own) (head .time) (after .left .high) (after .marks) (after .barrier) slots″ (after .left .waiting)
-      → Promised (recordOf head marks barrier slots) (receive bytes output)
-      (record { number = 0; panel = back; count = after .left .handed; output = after .output; frameLength = 0; buffer = [] })
-  received-done back passed e =
-      let p = recordOf head marks barrier slots in
+  left-settled : leftBehind ≡ settle (panelAt slots′ begun) .panel
+  left-settled = rw (← taken-own taken, ← taken-time taken) (settles .panel)
+
+  pub received-done : firstOf (receiveChecks (recordOf p) bytes output) ≡ 0
+      → Promised (recordOf p) (receive bytes output)
+      (record { number = 0; panel = leftBehind; count = after .left .handed; output = after .output; frameLength = 0; buffer = [] })
+  received-done passed =
       let m = messageIn width bytes in
-      let same = panel-started head marks barrier slots output kept in
-      settled-promised p (receive bytes output) passed slots′ (handedAtOnce p m) begun slots″ after settles
-      (receiving-taking p m ∙ ap (λ (r : Record). afterwards (handedAtOnce p m) (settle r)) (sym (taken .panel ∙ ap (λ (r : Record). taking r m) same)))
+      let same = panel-started p output kept in
+      settled-promised (recordOf p) (receive bytes output) passed slots′ (handedAtOnce (recordOf p) m) begun slots″ after settles
+      (receiving-taking (recordOf p) m
+      ∙ ap (λ (r : Record). afterwards (handedAtOnce (recordOf p) m) (settle r)) (sym (taken .panel ∙ ap (λ (r : Record). taking r m) same)))
       (rw same at (taken .output))
-      (rw same at (taken .handed) ∙ zero-add (length (handedAtOnce p m)))
-      (length-atOnce p bytes reads)
-      back
+      (rw same at (taken .handed) ∙ zero-add (length (handedAtOnce (recordOf p) m)))
+      (length-atOnce (recordOf p) bytes reads)
+      leftBehind
       []
-      (e ∙ given-back)
+      left-settled
       (sym (over-nil [] 0))

@@ -1,5 +1,6 @@
-// Receive, on a record that is lent. `receive_lent` asks nothing of its caller; what it promises is that of
-// document 01, for every argument.
+// Receive, in place on a lent record. Of the record it may touch high, count, marks, barrier and
+// slots, and beside it the output; own number and time it only reads. `receive_in_place` asks nothing
+// of its caller; what it promises is document 01's receive, for every argument.
 use frame::frame_check;
 use parts::Answer;
 use parts::broken;
@@ -22,10 +23,10 @@ ghost use Rattle.frame.specs.Refusal.{firstOf};
 ghost use Rattle.frame.specs.Reading.{messageIn};
 ghost use Rattle.rules.specs.Panel.{ready as isReady};
 ghost use Rattle.rules.specs.Refusals.{messageChecks};
-ghost use Rattle.rules.specs.Results.{Promised, receive};
+ghost use Rattle.rules.specs.Results.{receive};
 ghost use Rattle.slots.specs.Slots.{Reads, Slots, Kept, firstSlots};
 ghost use Rattle.settling.specs.Record.{asking, stage};
-ghost use Rattle.parts.specs.Record.{recordWith, headOf, recordOf, answered, Untouched};
+ghost use Rattle.parts.specs.Record.{parts, recordOf, PromisedInPlace};
 ghost use Rattle.receiving.specs.Steps.{frameChecksOn, Taken};
 
 // The number of the first check that turns down a frame before its message is looked at, or 0: 26, 10, 1 to 8.
@@ -51,7 +52,7 @@ fn message_number<'a, 'b>(
     frame: &'b [u8],
 ) -> u8
     requires { ⌜ Reads (now frame) × Slots (now slots) × Kept (now slots) count ⌝ }
-    ensures { λ r. ⌜ r ≡ firstOf (messageChecks (recordWith own time 0 (now (marks .entry)) [] (now (slots .entry)) count)
+    ensures { λ r. ⌜ r ≡ firstOf (messageChecks (recordOf (parts own time 0 count (now (marks .entry)) [] (now (slots .entry))))
         (messageIn 4 (now (frame .entry)))) ⌝ }
 {
     let from = source(frame);
@@ -108,9 +109,9 @@ fn take(
 }
 
 // A frame is received: the log records stand in the output.
-pub fn receive_lent(
+pub fn receive_in_place(
     own: u8,
-    time: &mut u32,
+    time: u32,
     high: &mut u32,
     count: &mut usize,
     marks: &mut [u32; 64],
@@ -119,17 +120,16 @@ pub fn receive_lent(
     frame: &[u8],
     output: &mut [u8],
 ) -> Answer
-    ensures { λ r. ⌜ Promised (recordOf (headOf own (now (time .entry)) (now (high .entry)) (now (count .entry))) (now (marks .entry)) (now (barrier .entry)) (now (slots .entry)))
-        (receive (now (frame .entry)) (now (output .entry)))
-        (answered r (recordOf (headOf own (now (time .exit)) (now (high .exit)) (now (count .exit))) (now (marks .exit)) (now (barrier .exit)) (now (slots .exit)))
-        (now (output .exit)) []) ⌝ }
-    ensures { λ r. ⌜ Untouched (r .number) (headOf own (now (time .entry)) (now (high .entry)) (now (count .entry))) (headOf own (now (time .exit)) (now (high .exit)) (now (count .exit)))
-        (now (marks .entry)) (now (marks .exit)) (now (barrier .entry)) (now (barrier .exit)) (now (slots .entry)) (now (slots .exit)) ⌝ }
+    ensures { λ r. ⌜ PromisedInPlace
+        (parts own time (now (high .entry)) (now (count .entry)) (now (marks .entry)) (now (barrier .entry)) (now (slots .entry)))
+        (receive (now (frame .entry)) (now (output .entry))) r
+        (parts own time (now (high .exit)) (now (count .exit)) (now (marks .exit)) (now (barrier .exit)) (now (slots .exit)))
+        (now (output .exit)) [] ⌝ }
 {
     let broken = broken(own, *high, *count, marks, barrier, slots);
     let mut number = frame_number(broken, output.len(), frame);
     if number == 0 {
-        number = message_number(own, *time, *count, marks, slots, frame);
+        number = message_number(own, time, *count, marks, slots, frame);
     }
     if number != 0 {
         return Answer {
@@ -140,7 +140,7 @@ pub fn receive_lent(
     }
     let begun = Settling {
         own,
-        time: *time,
+        time,
         high: *high,
         waiting: *count,
         handed: 0,

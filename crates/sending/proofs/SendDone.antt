@@ -28,7 +28,7 @@ use Rattle.rules.proofs.LogRecords.{length-logRecord}
 use Rattle.slots.specs.Slots.{Reads, Kept, firstSlots}
 use Rattle.slots.proofs.Kept.{held-order}
 use Rattle.settling.specs.Record.{Stage, stage, panelAt}
-use Rattle.parts.specs.Record.{Head, recordOf, SettlesSlots}
+use Rattle.parts.specs.Record.{Parts, recordOf, SettlesSlots}
 use Rattle.parts.proofs.Answering.{afterwards, settled-promised}
 use Rattle.sending.specs.Checks.{sendChecksOn}
 
@@ -38,15 +38,14 @@ unfolding sendChecks
 sendChecks-on p payload lifetime output buffer = refl
 
 -- a send that no check turns down
-pub record Passed (head : Head) (marks barrier slots payload : List ℕ) (lifetime : ℕ) (output buffer : List ℕ) : Type 0 where
+pub record Passed (p : Parts) (payload : List ℕ) (lifetime : ℕ) (output buffer : List ℕ) : Type 0 where
   pub bytes : Bytes payload
-  pub panels : length barrier ≡ 64
-  pub passed : firstOf (sendChecks (recordOf head marks barrier slots) payload lifetime output buffer) ≡ 0
+  pub panels : length (p .barrier) ≡ 64
+  pub passed : firstOf (sendChecks (recordOf p) payload lifetime output buffer) ≡ 0
 
-module _ {head : Head} {marks barrier slots payload : List ℕ} {lifetime : ℕ} {output buffer : List ℕ}
-    (P : Passed head marks barrier slots payload lifetime output buffer) where
+module _ {p : Parts} {payload : List ℕ} {lifetime : ℕ} {output buffer : List ℕ} (P : Passed p payload lifetime output buffer) where
   abbrev given : Record
-  given = recordOf head marks barrier slots
+  given = recordOf p
 
   pub checked : SendPassed given payload lifetime output buffer
   checked = send-passed given payload lifetime output buffer (P .passed)
@@ -76,24 +75,24 @@ module _ {head : Head} {marks barrier slots payload : List ℕ} {lifetime : ℕ}
 
   abbrev pub handedStage : Stage
   handedStage =
-      stage (record { own = head .own; time = head .time; high = max (head .high) (new .deadline); waiting = head .count; handed = 1 }) (firstSlots 32)
-      (raise marks new) (raise none64 new) (over output 0 (logRecord new))
+      stage (record { own = p .own; time = p .time; high = max (p .high) (new .deadline); waiting = p .count; handed = 1 }) (firstSlots 32)
+      (raise (p .marks) new) (raise none64 new) (over output 0 (logRecord new))
 
   pub stage-handed : (part : List ℕ) → part ≡ frame width new → (high : ℕ) (places marks′ barrier′ written : List ℕ)
-      → high ≡ max (head .high) (messageIn width part .deadline) → places ≡ firstSlots 32
-      → marks′ ≡ raise marks (messageIn width part) → barrier′ ≡ raise none64 (messageIn width part)
+      → high ≡ max (p .high) (messageIn width part .deadline) → places ≡ firstSlots 32
+      → marks′ ≡ raise (p .marks) (messageIn width part) → barrier′ ≡ raise none64 (messageIn width part)
       → written ≡ over output 0 (logRecord (messageIn width part))
-      → stage (record { own = head .own; time = head .time; high = high; waiting = head .count; handed = 1 }) places marks′ barrier′ written ≡ handedStage
+      → stage (record { own = p .own; time = p .time; high = high; waiting = p .count; handed = 1 }) places marks′ barrier′ written ≡ handedStage
   stage-handed part is high places marks′ barrier′ written e ep em eb eo =
       let message : messageIn width part ≡ new = ap (messageIn width) is ∙ frame-message width new (omega arith, omega arith) readable in
       rw (e, ep, em, eb, eo, message)
 
-  panel-handed : Kept slots (head .count) → panelAt slots handedStage ≡ hand (emptied given) new
+  panel-handed : Kept (p .slots) (p .count) → panelAt (p .slots) handedStage ≡ hand (emptied given) new
   unfolding hand
-  panel-handed kept = ap (λ (ms : List Message). withWaiting (hand (emptied given) new) ms) (held-order slots (head .count) (kept .few))
+  panel-handed kept = ap (λ (ms : List Message). withWaiting (hand (emptied given) new) ms) (held-order (p .slots) (p .count) (kept .few))
 
-  pub sent-done : Kept slots (head .count) → (slots′ : List ℕ) (after : Stage) (back : Record) → SettlesSlots slots handedStage slots′ after
-      → back ≡ settle (panelAt slots handedStage) .panel
+  pub sent-done : Kept (p .slots) (p .count) → (slots′ : List ℕ) (after : Stage) (back : Record) → SettlesSlots (p .slots) handedStage slots′ after
+      → back ≡ settle (panelAt (p .slots) handedStage) .panel
       → (size : ℕ) (filled : List ℕ) → size ≡ length (frame width new) → filled ≡ over buffer 0 (frame width new)
       → Promised given (send payload lifetime output buffer)
       (record { number = 0; panel = back; count = after .left .handed; output = after .output; frameLength = size; buffer = filled })
@@ -101,7 +100,7 @@ module _ {head : Head} {marks barrier slots payload : List ℕ} {lifetime : ℕ}
   sent-done kept slots′ after back settles e size filled same-size same-bytes =
       let one = ap (over output 0) (sym (append-nil (logRecord new))) in
       rw same-size
-      (settled-promised given (send payload lifetime output buffer) (P .passed) slots (new ∷ []) handedStage slots′ after settles
+      (settled-promised given (send payload lifetime output buffer) (P .passed) (p .slots) (new ∷ []) handedStage slots′ after settles
       (ap (λ (r : Record). afterwards (new ∷ []) (settle r)) (sym (panel-handed kept)))
       one
       refl

@@ -1,5 +1,6 @@
-// Send, on a record that is lent. `send_lent` asks nothing of its caller; what it promises is that of
-// document 01, for every argument.
+// Send, in place on a lent record. Of the record it may touch high, count, marks, barrier and slots,
+// and beside it the output and the frame buffer; own number and time it only reads. `send_in_place`
+// asks nothing of its caller; what it promises is document 01's send, for every argument.
 use frame::write;
 use parts::Answer;
 use parts::broken;
@@ -10,13 +11,13 @@ ghost use mathlib.Core.Path.{_≡_};
 ghost use mathlib.Core.List.{[]};
 ghost use Rattle.frame.specs.Refusal.{firstOf};
 ghost use Rattle.rules.specs.Calls.{sendDeadline};
-ghost use Rattle.rules.specs.Results.{Promised, send};
-ghost use Rattle.parts.specs.Record.{recordWith, headOf, recordOf, answered, Untouched};
+ghost use Rattle.rules.specs.Results.{send};
+ghost use Rattle.parts.specs.Record.{parts, recordOf, PromisedInPlace};
 ghost use Rattle.sending.specs.Checks.{sendChecksOn};
 
 // The larger of time + lifetime and high + 1; lifetime 0 means 1,200.
 fn send_deadline(time: u32, high: u32, lifetime: u16) -> u64
-    ensures { λ r. ⌜ r ≡ sendDeadline (recordWith 0 time high [] [] [] 0) lifetime ⌝ }
+    ensures { λ r. ⌜ r ≡ sendDeadline (recordOf (parts 0 time high 0 [] [] [])) lifetime ⌝ }
 {
     let mut by_time = time as u64 + lifetime as u64;
     if lifetime == 0 {
@@ -52,9 +53,9 @@ fn send_number(broken: bool, output: usize, buffer: usize, payload: usize, deadl
 }
 
 // A payload is sent with a lifetime: its frame stands in the buffer, and the log records in the output.
-pub fn send_lent(
+pub fn send_in_place(
     own: u8,
-    time: &mut u32,
+    time: u32,
     high: &mut u32,
     count: &mut usize,
     marks: &mut [u32; 64],
@@ -65,15 +66,14 @@ pub fn send_lent(
     output: &mut [u8],
     buffer: &mut [u8],
 ) -> Answer
-    ensures { λ r. ⌜ Promised (recordOf (headOf own (now (time .entry)) (now (high .entry)) (now (count .entry))) (now (marks .entry)) (now (barrier .entry)) (now (slots .entry)))
-        (send (now (payload .entry)) lifetime (now (output .entry)) (now (buffer .entry)))
-        (answered r (recordOf (headOf own (now (time .exit)) (now (high .exit)) (now (count .exit))) (now (marks .exit)) (now (barrier .exit)) (now (slots .exit)))
-        (now (output .exit)) (now (buffer .exit))) ⌝ }
-    ensures { λ r. ⌜ Untouched (r .number) (headOf own (now (time .entry)) (now (high .entry)) (now (count .entry))) (headOf own (now (time .exit)) (now (high .exit)) (now (count .exit)))
-        (now (marks .entry)) (now (marks .exit)) (now (barrier .entry)) (now (barrier .exit)) (now (slots .entry)) (now (slots .exit)) ⌝ }
+    ensures { λ r. ⌜ PromisedInPlace
+        (parts own time (now (high .entry)) (now (count .entry)) (now (marks .entry)) (now (barrier .entry)) (now (slots .entry)))
+        (send (now (payload .entry)) lifetime (now (output .entry)) (now (buffer .entry))) r
+        (parts own time (now (high .exit)) (now (count .exit)) (now (marks .exit)) (now (barrier .exit)) (now (slots .exit)))
+        (now (output .exit)) (now (buffer .exit)) ⌝ }
 {
     let broken = broken(own, *high, *count, marks, barrier, slots);
-    let deadline = send_deadline(*time, *high, lifetime);
+    let deadline = send_deadline(time, *high, lifetime);
     let number = send_number(broken, output.len(), buffer.len(), payload.len(), deadline);
     if number != 0 {
         return Answer {
@@ -91,7 +91,7 @@ pub fn send_lent(
     let mut handed = 1;
     *count = settle_slots(
         own,
-        *time,
+        time,
         *count,
         high,
         &mut handed,

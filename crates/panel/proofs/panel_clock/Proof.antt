@@ -1,4 +1,4 @@
--- `panel::panel_clock` meets its contract: the call on the lent record keeps the promise. Assumes nothing.
+-- `panel::panel_clock` meets its contract: the call in place keeps the promise. Assumes nothing.
 use mathlib.Core.Path.{refl}
 use borrow.Author.Needs.{needs}
 use Rattle.rules.specs.Results.{clock}
@@ -6,16 +6,16 @@ use Rattle.panel.proofs.ByValue.{promised-unframed, given-back}
 use Rattle.panel.proofs.panel_clock.Statement.{statement}
 use Rattle.panel.proofs.panel_clock.Tie as tie
 
-clock-lent-requires : tie.Need-clock-lent-requires
-clock-lent-requires c κs = search needs
+clock-in-place-requires : tie.Need-clock-in-place-requires
+clock-in-place-requires c κs = search needs
 
 same-length : tie.Need-same-length
 same-length c = search needs
 
 returns : tie.Need-returns
 returns c =
-    let call = c .before .before .clock-lent in
-    (promised-unframed _ (clock _ _) refl _ (call .ensures .0), given-back (call .result .number) _ _ _ _ _ (call .ensures .1))
+    let call = c .before .before .clock-in-place in
+    (promised-unframed _ (clock _ _) refl _ (call .ensures .0), given-back (call .result .number) _ _ (call .ensures .1))
 
 pub panel-clock-spec : {M : Type 1} → statement M
-panel-clock-spec = tie.close (tie.spec clock-lent-requires same-length returns)
+panel-clock-spec = tie.close (tie.spec clock-in-place-requires same-length returns)

@@ -1,11 +1,11 @@
--- `panel::panel_send` meets its contract: the call on the lent record keeps the promise. Assumes nothing.
+-- `panel::panel_send` meets its contract: the call in place keeps the promise. Assumes nothing.
 use borrow.Author.Needs.{needs}
 use Rattle.panel.proofs.ByValue.{given-back}
 use Rattle.panel.proofs.panel_send.Statement.{statement}
 use Rattle.panel.proofs.panel_send.Tie as tie
 
-send-lent-requires : tie.Need-send-lent-requires
-send-lent-requires c κs = search needs
+send-in-place-requires : tie.Need-send-in-place-requires
+send-in-place-requires c κs = search needs
 
 same-length : tie.Need-same-length
 same-length c = search needs
@@ -15,8 +15,8 @@ same-length-2 c = search needs
 
 returns : tie.Need-returns
 returns c =
-    let call = c .before .before .before .before .send-lent in
-    (call .ensures .0, given-back (call .result .number) _ _ _ _ _ (call .ensures .1))
+    let call = c .before .before .before .before .send-in-place in
+    (call .ensures .0, given-back (call .result .number) _ _ (call .ensures .1))
 
 pub panel-send-spec : {M : Type 1} → statement M
-panel-send-spec = tie.close (tie.spec send-lent-requires same-length same-length-2 returns)
+panel-send-spec = tie.close (tie.spec send-in-place-requires same-length same-length-2 returns)

@@ -6,7 +6,7 @@ use borrow.Author.Tests.{not-true, not-false}
 use denote.Ref.{now}
 use Rattle.rules.specs.Panel.{Panel as Record}
 use Rattle.slots.proofs.Held.{length-firstSlots}
-use Rattle.parts.specs.Record.{recordWith}
+use Rattle.parts.specs.Record.{parts, recordOf}
 use Rattle.parts.proofs.Refusing.{broken-own, broken-marks, broken-barrier, broken-count, broken-waiting}
 use Rattle.parts.proofs.broken.Statement.{statement}
 use Rattle.parts.proofs.broken.Tie as tie
@@ -15,7 +15,7 @@ use Rattle.parts.proofs.broken.Tie as tie
 abbrev given : tie.Start → Record
 given s =
     let a = s .args in
-    recordWith (a .own) 0 (a .high) (now (a .marks)) (now (a .barrier)) (now (a .slots)) (a .count)
+    recordOf (parts (a .own) 0 (a .high) (a .count) (now (a .marks)) (now (a .barrier)) (now (a .slots)))
 
 returns : tie.Need-returns
 returns c = sym (broken-own (given (c .before .before .before .before)) (omega (arith, c .if1 .taken)))

@@ -1,4 +1,4 @@
--- `sending::send_lent` meets its contract: a refusal is the first check that applies, and the rest is document 01's send. Assumes nothing.
+-- `sending::send_in_place` meets its contract: a refusal is the first check that applies, and the rest is document 01's send. Assumes nothing.
 use mathlib.Core.Path.{_≡_, refl, sym, ap, ap₂, _∙_}
 use mathlib.Core.Bool.{Bool}
 use mathlib.Core.List.{List}
@@ -15,31 +15,33 @@ use Rattle.frame.specs.Refusal.{firstOf}
 use Rattle.rules.specs.Panel.{Panel as Record, none64}
 use Rattle.rules.specs.Calls.{newMessage, sendDeadline}
 use Rattle.rules.specs.Refusals.{broken, sendChecks}
-use Rattle.rules.specs.Results.{refused, send}
+use Rattle.rules.specs.Results.{send}
 use Rattle.slots.specs.Slots.{Slots, firstSlots}
 use Rattle.slots.proofs.Kept.{listed-order}
 use Rattle.settling.specs.Record.{left, stage}
-use Rattle.parts.specs.Record.{Head, headOf, recordOf}
+use Rattle.parts.specs.Record.{Parts, parts, recordOf}
 use Rattle.sending.specs.Checks.{sendChecksOn}
 use Rattle.sending.proofs.SendDone.{sendChecks-on}
-use Rattle.parts.proofs.Answering.{refused-promised, valid-kept}
+use Rattle.parts.proofs.Answering.{refused-in-place, valid-kept}
 use Rattle.sending.proofs.SendDone.{Passed, checked, frame-fits, length-written, buffer-written, frame-reads, stage-handed, sent-done}
-use Rattle.sending.proofs.send_lent.Statement.{statement}
-use Rattle.sending.proofs.send_lent.Tie as tie
+use Rattle.sending.proofs.send_in_place.Statement.{statement}
+use Rattle.sending.proofs.send_in_place.Tie as tie
 
 -- looking back: what was known of the payload, and the start of the call
 abbrev known : tie.After-send-deadline → tie.After-shared-slice-known
-known c = c .before .before .before .before .before .before .before .before .before .before .before .before .before
+known c = c .before .before .before .before .before .before .before .before .before .before .before .before
 
 abbrev start : tie.After-send-deadline → tie.Start
 start c = known c .before
 
--- the record that was given
-abbrev head : tie.Start → Head
-head c = let a = c .args in headOf (a .own) (a .time .now) (a .high .now) (a .count .now)
+-- the parts that were lent, and the record that they hold
+abbrev lent : tie.Start → Parts
+lent c =
+    let a = c .args in
+    parts (a .own) (a .time) (a .high .now) (a .count .now) (a .marks .now) (a .barrier .now) (a .slots .now)
 
 abbrev given : tie.Start → Record
-given c = let a = c .args in recordOf (head c) (a .marks .now) (a .barrier .now) (a .slots .now)
+given c = recordOf (lent c)
 
 -- the checks of the call
 abbrev table : tie.Start → List (Bool × ℕ)
@@ -66,7 +68,7 @@ numbered c =
     let a = start (c .before) .args in
     c .send-number .ensures
     ∙ ap₂ (λ (b : Bool) (n : ℕ). firstOf (sendChecksOn b (length (a .output .now)) (length (a .buffer .now)) (length (a .payload .now)) n))
-    (c .before .before .before .broken .ensures) (due (c .before))
+    (c .before .before .broken .ensures) (due (c .before))
     ∙ ap firstOf (sendChecks-on (given (start (c .before))) (a .payload .now) (a .lifetime) (a .output .now) (a .buffer .now))
 
 -- past the checks
@@ -74,7 +76,7 @@ abbrev back : tie.Else1 → tie.Start
 back c = start (c .before .before)
 
 passed : (c : tie.Else1) → let a = back c .args in
-    Passed (head (back c)) (a .marks .now) (a .barrier .now) (a .slots .now) (a .payload .now) (a .lifetime) (a .output .now) (a .buffer .now)
+    Passed (lent (back c)) (a .payload .now) (a .lifetime) (a .output .now) (a .buffer .now)
 passed c =
     record {
       bytes = payload-bytes (known (c .before .before));
@@ -115,8 +117,7 @@ send-number-requires : tie.Need-send-number-requires
 send-number-requires c κs = search needs
 
 returns : tie.Need-returns
-unfolding refused
-returns c = (refused-promised _ (send _ _ _ _) _ (numbered (c .before)) (c .if1 .taken), λ _. (refl, refl, refl, refl))
+returns c = refused-in-place (lent (start (c .before .before))) (send _ _ _ _) _ (numbered (c .before)) (c .if1 .taken)
 
 cast-write : tie.Need-cast-write
 cast-write c = omega (arith, due (c .before .before .before .before), checked (passed (c .before .before)) .deadline)
@@ -149,7 +150,7 @@ settle-slots-requires c κs =
     let hand = order .before .before .before in
     let write = hand .before .before .before .before .before .before .before .before in
     let P = checked (passed (past write)) in
-    let whole = valid-kept _ _ _ _ (P .valid) in (
+    let whole = valid-kept (lent (back (past write))) (P .valid) in (
       (all-slots (past write .before .before), rw (order .in-order .ensures) (listed-order _ _ whole)),
       omega (arith, whole .few, P .output-room, hand .hand .kept .1 .1 .1 .1 .1 .0),
     )
@@ -174,14 +175,14 @@ returns-2 c =
     (handed .last .1 .1 .1 .1 .1 .0)
     (handed .ensures .0) (order .in-order .ensures) (handed .ensures .1) (handed .ensures .2) (handed .ensures .3) in
     let settles = rw stage-is at (s .ensures) in (
-      sent-done P (valid-kept _ _ _ _ (checked P .valid)) (s .last .1 .1 .1 .1 .1 .1 .1 .1 .0)
-          (stage (left (back (past write) .args .own) (back (past write) .args .time .now) (s .last .1 .1 .1 .0) (s .result) (s .last .1 .1 .1 .1 .0)) (firstSlots 32) (s .last .1 .1 .1 .1 .1 .1 .0) (s .last .1 .1 .1 .1 .1 .1 .1 .0) (s .last .1 .1 .1 .1 .1 .1 .1 .1 .1 .0)) _ settles (settles .panel)
+      sent-done P (valid-kept (lent (back (past write))) (checked P .valid)) (s .last .1 .1 .1 .1 .1 .1 .1 .1 .0)
+          (stage (left (back (past write) .args .own) (back (past write) .args .time) (s .last .1 .1 .1 .0) (s .result) (s .last .1 .1 .1 .1 .0)) (firstSlots 32) (s .last .1 .1 .1 .1 .1 .1 .0) (s .last .1 .1 .1 .1 .1 .1 .1 .0) (s .last .1 .1 .1 .1 .1 .1 .1 .1 .1 .0)) _ settles (settles .panel)
           _ _ (wrote write .0) (wrote write .1),
       λ refuses. absurd (refuses refl),
     )
 
-pub send-lent-spec : {M : Type 1} → statement M
-send-lent-spec =
+pub send-in-place-spec : {M : Type 1} → statement M
+send-in-place-spec =
     tie.close
     (tie.spec
     broken-requires

@@ -1,4 +1,4 @@
--- `clocking::clock_lent` meets its contract: a refusal is the first check that applies, and the rest is document 01's clock. Assumes nothing.
+-- `clocking::clock_in_place` meets its contract: a refusal is the first check that applies, and the rest is document 01's clock. Assumes nothing.
 use mathlib.Core.Path.{_≡_, refl, sym, ap, _∙_}
 use mathlib.Core.Bool.{Bool}
 use native.Mathlib.Omega.{arith}
@@ -7,27 +7,29 @@ use lib.ListN.{length}
 use Rattle.frame.specs.Refusal.{firstOf}
 use Rattle.rules.specs.Panel.{Panel as Record}
 use Rattle.rules.specs.Refusals.{broken, clockChecks}
-use Rattle.rules.specs.Results.{refused, clock}
+use Rattle.rules.specs.Results.{clock}
 use Rattle.rules.proofs.Checks.{ClockPassed, clock-passed}
 use Rattle.slots.specs.Slots.{firstSlots}
 use Rattle.settling.specs.Record.{left, stage}
-use Rattle.parts.specs.Record.{Head, headOf, recordOf}
-use Rattle.parts.proofs.Answering.{refused-promised, valid-kept}
+use Rattle.parts.specs.Record.{Parts, parts, recordOf}
+use Rattle.parts.proofs.Answering.{refused-in-place, valid-kept}
 use Rattle.clocking.specs.Checks.{clockChecksOn}
 use Rattle.clocking.proofs.ClockDone.{clockChecks-on, clocked-done}
-use Rattle.clocking.proofs.clock_lent.Statement.{statement}
-use Rattle.clocking.proofs.clock_lent.Tie as tie
+use Rattle.clocking.proofs.clock_in_place.Statement.{statement}
+use Rattle.clocking.proofs.clock_in_place.Tie as tie
 
 -- looking back: the start of the call
 abbrev start : tie.After-broken → tie.Start
 start c = c .before .before .before .before .before .before .before .before .before .before
 
--- the record that was given
-abbrev head : tie.Start → Head
-head c = let a = c .args in headOf (a .own) (a .time .now) (a .high .now) (a .count .now)
+-- the parts that were lent, and the record that they hold
+abbrev lent : tie.Start → Parts
+lent c =
+    let a = c .args in
+    parts (a .own) (a .time .now) (a .high .now) (a .count .now) (a .marks .now) (a .barrier .now) (a .slots .now)
 
 abbrev given : tie.Start → Record
-given c = let a = c .args in recordOf (head c) (a .marks .now) (a .barrier .now) (a .slots .now)
+given c = recordOf (lent c)
 
 -- the number is that of the first check that applies
 numbered : (c : tie.After-clock-number) → let s = start (c .before .before) in
@@ -57,11 +59,10 @@ clock-number-requires : tie.Need-clock-number-requires
 clock-number-requires c κs = search needs
 
 returns : tie.Need-returns
-unfolding refused
-returns c = (refused-promised _ (clock _ _) _ (numbered (c .before)) (c .if1 .taken), λ _. (refl, refl, refl, refl))
+returns c = refused-in-place (lent (start (c .before .before .before))) (clock _ _) _ (numbered (c .before)) (c .if1 .taken)
 
 alive-requires : tie.Need-alive-requires
-alive-requires c κs = (search needs, valid-kept _ _ _ _ (checked (c .before .before) .valid))
+alive-requires c κs = (search needs, valid-kept (lent (back (c .before .before))) (checked (c .before .before) .valid))
 
 settle-slots-requires : tie.Need-settle-slots-requires
 settle-slots-requires c κs =
@@ -79,15 +80,15 @@ returns-2 c =
     let past = kept .before .before .before in
     let a = back past .args in
     let s = settled .settle-slots in (
-      clocked-done (head (back past)) (a .marks .now) (a .barrier .now) (a .slots .now) (a .reading) (a .output .now) _ (kept .alive .ensures)
+      clocked-done (lent (back past)) (a .reading) (a .output .now) _ (kept .alive .ensures)
           (s .last .1 .1 .1 .1 .1 .1 .1 .1 .0)
           (stage (left (a .own) (a .reading) (s .last .1 .1 .1 .0) (s .result) (s .last .1 .1 .1 .1 .0)) (firstSlots 32) (s .last .1 .1 .1 .1 .1 .1 .0) (s .last .1 .1 .1 .1 .1 .1 .1 .0) (s .last .1 .1 .1 .1 .1 .1 .1 .1 .1 .0)) _ (passed past) (s .ensures)
           (s .ensures .panel),
       λ refuses. absurd (refuses refl),
     )
 
-pub clock-lent-spec : {M : Type 1} → statement M
-clock-lent-spec =
+pub clock-in-place-spec : {M : Type 1} → statement M
+clock-in-place-spec =
     tie.close
     (tie.spec
     broken-requires

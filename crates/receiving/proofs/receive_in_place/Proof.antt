@@ -1,4 +1,4 @@
--- `receiving::receive_lent` meets its contract: a refusal is the first check that applies, and the rest is document 01's receive. Assumes nothing.
+-- `receiving::receive_in_place` meets its contract: a refusal is the first check that applies, and the rest is document 01's receive. Assumes nothing.
 use mathlib.Core.Path.{_≡_, refl, sym, ap, _∙_}
 use mathlib.Core.Bool.{Bool}
 use mathlib.Core.Logic.{⊎-elim}
@@ -9,28 +9,30 @@ use Rattle.frame.specs.Refusal.{firstOf}
 use Rattle.frame.specs.Reading.{messageIn}
 use Rattle.rules.specs.Panel.{Panel as Record, met, lapsed, ready}
 use Rattle.rules.specs.Refusals.{broken, messageChecks, receiveChecks}
-use Rattle.rules.specs.Results.{refused, receive}
+use Rattle.rules.specs.Results.{receive}
 use Rattle.rules.proofs.Checks.{ReceivePassed, receive-passed}
 use Rattle.slots.specs.Slots.{firstSlots}
 use Rattle.settling.specs.Record.{left, stage}
-use Rattle.parts.specs.Record.{Head, headOf, recordOf}
+use Rattle.parts.specs.Record.{Parts, parts, recordOf}
 use Rattle.receiving.specs.Steps.{frameChecksOn}
 use Rattle.receiving.proofs.Checking.{frame-refused, frame-through, through-reads, through-valid}
-use Rattle.parts.proofs.Answering.{refused-promised, valid-kept}
+use Rattle.parts.proofs.Answering.{refused-in-place, valid-kept}
 use Rattle.receiving.proofs.ReceiveDone.{room, received-done}
-use Rattle.receiving.proofs.receive_lent.Statement.{statement}
-use Rattle.receiving.proofs.receive_lent.Tie as tie
+use Rattle.receiving.proofs.receive_in_place.Statement.{statement}
+use Rattle.receiving.proofs.receive_in_place.Tie as tie
 
 -- looking back: the start of the call
 abbrev start : tie.After-frame-number → tie.Start
 start c = c .before .before .before .before .before .before .before .before .before .before .before .before
 
--- the record that was given
-abbrev head : tie.Start → Head
-head c = let a = c .args in headOf (a .own) (a .time .now) (a .high .now) (a .count .now)
+-- the parts that were lent, and the record that they hold
+abbrev lent : tie.Start → Parts
+lent c =
+    let a = c .args in
+    parts (a .own) (a .time) (a .high .now) (a .count .now) (a .marks .now) (a .barrier .now) (a .slots .now)
 
 abbrev given : tie.Start → Record
-given c = let a = c .args in recordOf (head c) (a .marks .now) (a .barrier .now) (a .slots .now)
+given c = recordOf (lent c)
 
 -- the number is that of the first check that applies
 framed : (c : tie.After-frame-number) → let a = start c .args in
@@ -46,7 +48,7 @@ unfolding messageChecks ready met lapsed
 numbered c =
     let first-number = framed (c .before) in
     ⊎-elim
-    (λ w. w .6 ∙ w .5 .ensures ∙ frame-through _ _ _ (sym first-number ∙ w .0 .taken))
+    (λ w. w .5 ∙ w .4 .ensures ∙ frame-through _ _ _ (sym first-number ∙ w .0 .taken))
     (λ w. w .1 ∙ first-number ∙ frame-refused _ _ _ (λ e. w .0 .left (first-number ∙ e)))
     (c .if1 .came)
 
@@ -69,23 +71,22 @@ frame-number-requires c κs = search needs
 
 message-number-requires : tie.Need-message-number-requires
 message-number-requires c κs =
-    let test = c .before .before .before .before in
+    let test = c .before .before .before in
     let s = start (test .before) in
     let through = sym (framed (test .before)) ∙ test .if1 .taken in (
       through-reads (given s) (s .args .frame .now) (s .args .output .now) through,
       search needs,
-      valid-kept _ _ _ _ (through-valid (given s) (s .args .frame .now) (s .args .output .now) through),
+      valid-kept (lent s) (through-valid (given s) (s .args .frame .now) (s .args .output .now) through),
     )
 
 returns : tie.Need-returns
-unfolding refused
-returns c = (refused-promised _ (receive _ _) _ (numbered (c .before)) (c .if2 .taken), λ _. (refl, refl, refl, refl))
+returns c = refused-in-place (lent (start (c .before .before))) (receive _ _) _ (numbered (c .before)) (c .if2 .taken)
 
 take-requires : tie.Need-take-requires
 take-requires c κs =
-    let past = c .before .before .before .before .before in (
-      (checked past .read, search needs, valid-kept _ _ _ _ (checked past .valid)),
-      (room _ _ _ _ _ _ (passed past), omega (arith, checked past .output-room)),
+    let past = c .before .before .before .before in (
+      (checked past .read, search needs, valid-kept (lent (back past)) (checked past .valid)),
+      (room (lent (back past)) _ _ (passed past), omega (arith, checked past .output-room)),
     )
 
 in-order-requires : tie.Need-in-order-requires
@@ -95,9 +96,9 @@ settle-slots-requires : tie.Need-settle-slots-requires
 settle-slots-requires c κs =
     let order = c .before .before .before .before .before .before in
     let take = order .before .before .before in
-    let past = take .before .before .before .before .before .before in
+    let past = take .before .before .before .before .before in
     let taken = take .take .ensures in
-    let few = valid-kept _ _ _ _ (checked past .valid) .few in (
+    let few = valid-kept (lent (back past)) (checked past .valid) .few in (
       (taken .size, rw (order .in-order .ensures) (taken .listed)),
       omega (arith, taken .one-more, few, checked past .output-room, take .take .kept .1 .1 .1 .1 .1 .0),
     )
@@ -110,18 +111,18 @@ returns-2 c =
     let settled = c .before .before in
     let order = settled .before .before .before .before .before .before .before in
     let take = order .before .before .before in
-    let past = take .before .before .before .before .before .before in
+    let past = take .before .before .before .before .before in
     let a = back past .args in
     let s = settled .settle-slots in (
-      received-done (head (back past)) (a .marks .now) (a .barrier .now) (a .slots .now) (a .frame .now) (a .output .now) (valid-kept _ _ _ _ (checked past .valid))
-          (checked past .read) _ _ (take .take .ensures) (s .last .1 .1 .1 .1 .1 .1 .1 .1 .0)
+      received-done (lent (back past)) (a .frame .now) (a .output .now) (valid-kept (lent (back past)) (checked past .valid)) (checked past .read) _ _
+          (take .take .ensures) (s .last .1 .1 .1 .1 .1 .1 .1 .1 .0)
           (stage (left (take .take .result .own) (take .take .result .time) (s .last .1 .1 .1 .0) (s .result) (s .last .1 .1 .1 .1 .0)) (firstSlots 32) (s .last .1 .1 .1 .1 .1 .1 .0) (s .last .1 .1 .1 .1 .1 .1 .1 .0) (s .last .1 .1 .1 .1 .1 .1 .1 .1 .1 .0))
-          (rw (order .in-order .ensures) at (s .ensures)) _ (passed past) refl,
+          (rw (order .in-order .ensures) at (s .ensures)) (passed past),
       λ refuses. absurd (refuses refl),
     )
 
-pub receive-lent-spec : {M : Type 1} → statement M
-receive-lent-spec =
+pub receive-in-place-spec : {M : Type 1} → statement M
+receive-in-place-spec =
     tie.close
     (tie.spec
     broken-requires

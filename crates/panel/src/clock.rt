@@ -1,0 +1,40 @@
+// Clock by value, thin over that in place: it copies marks and barrier, and lends the slots of the
+// struct that it was given.
+use crate::Clocked;
+use crate::Panel;
+use clocking::clock_in_place;
+ghost use Rattle.rules.specs.Results.{Promised, clock};
+ghost use Rattle.panel.specs.Record.{recordOf, clockedResult, GivenBack};
+
+// The clock shows a time: the log records stand in the output.
+pub fn panel_clock(mut p: Panel, time: u32, output: &mut [u8]) -> Clocked
+    ensures { λ r. ⌜ Promised (recordOf p) (clock time (now (output .entry))) (clockedResult r (now (output .exit))) ⌝ }
+    ensures { λ r. ⌜ GivenBack (r .number) p (r .panel) ⌝ }
+{
+    let mut at = p.time;
+    let mut high = p.high;
+    let mut count = p.count;
+    let mut marks = p.marks;
+    let mut barrier = p.barrier;
+    let answer = clock_in_place(
+        p.own,
+        &mut at,
+        &mut high,
+        &mut count,
+        &mut marks,
+        &mut barrier,
+        &mut p.slots,
+        time,
+        output,
+    );
+    p.time = at;
+    p.high = high;
+    p.count = count;
+    p.marks = marks;
+    p.barrier = barrier;
+    Clocked {
+        panel: p,
+        count: answer.count,
+        number: answer.number,
+    }
+}

@@ -1,0 +1,38 @@
+// Receive by value, thin over that in place: it copies marks and barrier, and lends the slots of the
+// struct that it was given.
+use crate::Panel;
+use crate::Received;
+use receiving::receive_in_place;
+ghost use Rattle.rules.specs.Results.{Promised, receive};
+ghost use Rattle.panel.specs.Record.{recordOf, receivedResult, GivenBack};
+
+// A frame is received: the log records stand in the output.
+pub fn panel_receive<'a, 'b>(mut p: Panel, frame: &'a [u8], output: &'b mut [u8]) -> Received
+    ensures { λ r. ⌜ Promised (recordOf p) (receive (now (frame .entry)) (now (output .entry))) (receivedResult r (now (output .exit))) ⌝ }
+    ensures { λ r. ⌜ GivenBack (r .number) p (r .panel) ⌝ }
+{
+    let mut high = p.high;
+    let mut count = p.count;
+    let mut marks = p.marks;
+    let mut barrier = p.barrier;
+    let answer = receive_in_place(
+        p.own,
+        p.time,
+        &mut high,
+        &mut count,
+        &mut marks,
+        &mut barrier,
+        &mut p.slots,
+        frame,
+        output,
+    );
+    p.high = high;
+    p.count = count;
+    p.marks = marks;
+    p.barrier = barrier;
+    Received {
+        panel: p,
+        count: answer.count,
+        number: answer.number,
+    }
+}

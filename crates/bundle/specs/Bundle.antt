@@ -9,6 +9,7 @@ use denote.Ref.{RefT, now}
 use Rattle.numbers.specs.Numbers.{bigEndian, numberAt}
 use Rattle.bundle.specs.declared.Step.{Step}
 use Rattle.bundle.specs.declared.Step.the-variants.{Frame, End, Broken}
+use Rattle.bundle.specs.declared.BundleStep.{BundleStep}
 
 -- a bundle is a run of frames, each behind its length in 16 bits
 unfoldable pub bundleOf : List (List ℕ) → List ℕ
@@ -46,6 +47,12 @@ startOf Broken = 0
 -- the frame at a place
 abbrev pub frameAt : List ℕ → ℕ → List ℕ
 frameAt bundle place = partOf bundle (stepAt bundle place)
+
+-- the step as C has it: 0 for a frame, 1 for end, 2 for broken; with end and broken the part is empty and the place stays
+abbrev pub answerOf : Step → ℕ → BundleStep
+answerOf (Frame start size next) place = record { start = start; length = size; next = next; kind = 0 }
+answerOf End place = record { start = 0; length = 0; next = place; kind = 1 }
+answerOf Broken place = record { start = 0; length = 0; next = place; kind = 2 }
 
 -- the frame at a place as a part of the slice: what it holds, in which memory block, and from which place on
 pub record FramePart (bundle : RefT (List ℕ)) (at : ℕ) (part : RefT (List ℕ)) : Type 0 where

@@ -6,7 +6,7 @@ use numbers::number_at;
 ghost use mathlib.Core.Path.{_≡_};
 ghost use Rattle.frame.specs.Reading.{reading};
 ghost use Rattle.frame.specs.Answer.{fieldsOf};
-ghost use Rattle.bundle.specs.Bundle.{stepAt, placeAfter, frameAt, FramePart};
+ghost use Rattle.bundle.specs.Bundle.{stepAt, placeAfter, frameAt, FramePart, answerOf};
 
 // What stands at a place: a frame, from start on, of so many bytes, and the place behind it; the end;
 // or broken. With end and broken the place stays.
@@ -43,6 +43,47 @@ pub fn step_at(bundle: &[u8], place: usize) -> Step
         start,
         length,
         next: start + length,
+    }
+}
+
+// A step as C has it: kind 0 is a frame, 1 the end, 2 broken.
+#[repr(C)]
+pub struct BundleStep {
+    pub start: usize,
+    pub length: usize,
+    pub next: usize,
+    pub kind: u8,
+}
+
+// The step at a place of a bundle, for C. With end and broken start and length are 0, and next is
+// the place.
+#[no_mangle]
+pub extern "C" fn panel_bundle_step(bundle: &[u8], place: usize) -> BundleStep
+    ensures { λ r. ⌜ r ≡ answerOf (stepAt (now (bundle .entry)) place) place ⌝ }
+{
+    match step_at(bundle, place) {
+        Step::Frame {
+            start,
+            length,
+            next,
+        } => BundleStep {
+            start,
+            length,
+            next,
+            kind: 0,
+        },
+        Step::End => BundleStep {
+            start: 0,
+            length: 0,
+            next: place,
+            kind: 1,
+        },
+        Step::Broken => BundleStep {
+            start: 0,
+            length: 0,
+            next: place,
+            kind: 2,
+        },
     }
 }
 

@@ -1,0 +1,2 @@
+-- The laws of reading log records.
+pub mod Places

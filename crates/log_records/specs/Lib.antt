@@ -1,0 +1,2 @@
+-- The definitions that the promises on log records cite.
+pub mod LogRecords

@@ -1,2 +1,3 @@
--- The laws of reading log records.
+-- Where log records stand in a log, and that those a call wrote are read back.
 pub mod Places
+pub mod Theorems

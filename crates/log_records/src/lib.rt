@@ -10,10 +10,13 @@ const LOG_RECORD: usize = 38;
 // The bytes of a deadline.
 const WIDTH: usize = 4;
 
-// Where in a log record the deadline stands, behind the source; the length, behind the deadline; and
-// the payload, behind the length.
+// Where in a log record the deadline stands: behind the source.
 const DEADLINE_AT: usize = 1;
+
+// Where the length of the payload stands: behind the deadline.
 const LENGTH_AT: usize = DEADLINE_AT + WIDTH;
+
+// Where the payload stands: behind its length.
 const PAYLOAD_AT: usize = LENGTH_AT + 1;
 
 // The most bytes of a payload.
@@ -65,8 +68,8 @@ pub fn log_payload(log: &[u8], index: usize) -> &[u8]
     if !is_whole(log, index) {
         return &log[0..0];
     }
-    let start = index * LOG_RECORD;
-    let payload = start + PAYLOAD_AT;
-    let end = payload + number_at(log, start + LENGTH_AT, 1) as usize;
-    &log[payload..end]
+    let length = number_at(log, index * LOG_RECORD + LENGTH_AT, 1) as usize;
+    let start = index * LOG_RECORD + PAYLOAD_AT;
+    let end = start + length;
+    &log[start..end]
 }

@@ -48,17 +48,20 @@ returns c =
       place = rw (place-none (now (a .log)) (a .index) none) refl;
     }
 
-mul-start : tie.Need-mul-start
-mul-start c = omega (arith, whole c .room)
-
-add-payload : tie.Need-add-payload
-add-payload c = omega (arith, whole c .room)
+mul-number-at : tie.Need-mul-number-at
+mul-number-at c = omega (arith, whole c .room)
 
 add-number-at : tie.Need-add-number-at
 add-number-at c = omega (arith, whole c .room)
 
 number-at-requires : tie.Need-number-at-requires
 number-at-requires c κs = omega (arith, whole c .room)
+
+mul-start : tie.Need-mul-start
+mul-start c = omega (arith, whole (c .before) .room)
+
+add-start : tie.Need-add-start
+add-start c = omega (arith, whole (c .before) .room)
 
 add-end : tie.Need-add-end
 add-end c = omega (arith, whole (c .before) .room, whole (c .before) .few, c .number-at .ensures .0)
@@ -95,10 +98,11 @@ log-payload-spec =
     part-result-start
     part-result-end
     returns
-    mul-start
-    add-payload
+    mul-number-at
     add-number-at
     number-at-requires
+    mul-start
+    add-start
     add-end
     sub-result-2
     part-result-start-2

@@ -12,13 +12,14 @@ use Rattle.bundle.proofs.Steps.{step-found}
 use Rattle.rules.specs.Panel.{fresh}
 use Rattle.rules.specs.BenchCases.{frame1, frame2}
 use Rattle.rules.proofs.BenchCases.{callsOpened}
+use Rattle.log_records.specs.LogRecords.{logRecordAt, isWhole, fieldsIn, payloadIn}
 use Rattle.text.specs.Text.{ascii, digit, decimalIn, hexadecimal}
-use Rattle.text.specs.Lines.{item, outcome, frameLine, payloadText, payloadIn, handLine, logRecordAt, handLines}
+use Rattle.text.specs.Lines.{item, outcome, frameLine, payloadText, handLine, handLines}
 use Rattle.listing.specs.Listing.{State, received, linesAt, onward, stateAfter, goesOn, linesFrom, listing}
 
 -- whoever unfolds this unfolds all that a listing is computed by
 opened : Unit {0}
-unfolding fresh callsOpened frame1 frame2 bundleOf stepAt ascii digit decimalIn hexadecimal item outcome frameLine payloadText payloadIn handLine logRecordAt handLines received linesAt stateAfter linesFrom listing
+unfolding fresh callsOpened frame1 frame2 bundleOf stepAt ascii digit decimalIn hexadecimal item outcome frameLine payloadText logRecordAt isWhole fieldsIn payloadIn handLine handLines received linesAt stateAfter linesFrom listing
 opened = tt
 
 -- 3. "list", given case 2's frame and then case 1's

@@ -20,6 +20,13 @@ drop-take zero n l = ap (λ (i : ℕ). take i l) (zero-add n)
 drop-take (suc k) n [] = ap (λ (i : ℕ). drop (suc k) (take i [])) (suc-add k n) ∙ sym (take-nil n)
 drop-take (suc k) n (x ∷ l) = ap (λ (i : ℕ). drop (suc k) (take i (x ∷ l))) (suc-add k n) ∙ drop-take k n l
 
+-- what makes a log record whole
+whole-parts : (logRecord : List ℕ) → isWhole logRecord ≡ true → (length logRecord ≡ logRecordLength) × (numberAt logRecord (1 + width) 1 ≤ 32)
+unfolding isWhole
+whole-parts logRecord whole =
+    let both = and-both (eqb (length logRecord) logRecordLength) (leb (numberAt logRecord (1 + width) 1) 32) whole in
+    (eqb-true (length logRecord) logRecordLength (both .0), leb-true (numberAt logRecord (1 + width) 1) 32 (both .1))
+
 module _ (log : List ℕ) (index : ℕ) where
   -- so many bytes from a place of the log record on are bytes of the log
   part-at : (at size : ℕ) → at + size ≤ logRecordLength
@@ -69,12 +76,9 @@ module _ (log : List ℕ) (index : ℕ) where
     pub few : numberAt log (index * logRecordLength + (1 + width)) 1 ≤ 32
 
   pub true-whole : isWhole (logRecordAt log index) ≡ true → Whole
-  unfolding isWhole
   true-whole whole =
-      let both = and-both (eqb (length (logRecordAt log index)) logRecordLength) (leb (numberAt (logRecordAt log index) (1 + width) 1) 32) whole in
-      let same = number-at (1 + width) 1 (omega arith) in
-      let few = leb-true (numberAt (logRecordAt log index) (1 + width) 1) 32 (both .1) in
-      record { room = length-cut (eqb-true _ _ (both .0)); few = omega arith }
+      let parts = whole-parts (logRecordAt log index) whole in
+      record { room = length-cut (parts .0); few = omega (arith, parts .1, number-at (1 + width) 1 (omega arith)) }
 
   -- ---- what is read
 
@@ -113,3 +117,19 @@ module _ (log : List ℕ) (index : ℕ) where
   pub place-none : isWhole (logRecordAt log index) ≡ false → payloadPlace log index ≡ 0
   unfolding payloadPlace
   place-none none = rw none refl
+
+-- ---- whatever the bytes are
+
+length-short : (logRecord : List ℕ) → fieldsIn logRecord .length ≤ 32
+unfolding fieldsIn
+length-short logRecord = go (isWhole logRecord) refl
+  where
+    go : (b : Bool) → isWhole logRecord ≡ b → fieldsIn logRecord .length ≤ 32
+    go true whole = rw whole (whole-parts logRecord whole .1)
+    go false none = rw none (omega arith)
+
+-- the payload has at most 32 bytes
+pub payload-short : (logRecord : List ℕ) → length (payloadIn logRecord) ≤ 32
+unfolding payloadIn
+payload-short logRecord =
+    omega (arith, length-short logRecord, length-take (fieldsIn logRecord .length) (drop (2 + width) logRecord))

@@ -1,14 +1,13 @@
--- The pieces of a line: what was answered, the payload of a log record, and its text.
-use mathlib.Core.Path.{_≡_, refl, sym, ap}
+-- The pieces of a line: what was answered, the text of a payload, and the items of a log record.
+use mathlib.Core.Path.{_≡_, refl}
 use mathlib.Core.List.{List, [], _∷_}
-use Prim.Native.Nat.{ℕ, zero, suc, _+_, _*_, _≤_, _<_}
+use Prim.Native.Nat.{ℕ, zero, suc, _+_, _≤_}
 use native.Mathlib.Numerals.{add-one}
 use native.Mathlib.Omega.{arith}
-use lib.ListN.{length, take, drop, length-drop}
-use lib.Seq.{take-all}
-use Rattle.numbers.specs.Numbers.{numberAt}
+use lib.ListN.{length}
+use Rattle.log_records.specs.LogRecords.{logRecordAt, fieldsIn, payloadIn}
 use Rattle.text.specs.Text.{ascii, decimal, hexadecimal}
-use Rattle.text.specs.Lines.{item, outcome, payloadIn, payloadText, handLine, handLines, logRecordAt}
+use Rattle.text.specs.Lines.{item, outcome, payloadText, handLine, handLines}
 use Rattle.text.specs.Put.{Put}
 use Rattle.text.proofs.Puts.{put-put}
 
@@ -32,20 +31,10 @@ unfolding payloadText
 payloadText-some [] some = absurd (some refl)
 payloadText-some (b ∷ bs) some = refl
 
-module _ (logRecord : List ℕ) (whole : length logRecord ≡ 38) where
-  -- a length above 32 says no more than that
-  pub payloadIn-long : 32 < numberAt logRecord 5 1 → payloadIn logRecord ≡ drop 6 logRecord
-  unfolding payloadIn
-  payloadIn-long long = take-all (numberAt logRecord 5 1) (drop 6 logRecord) (rw length-drop (omega arith))
-
-  pub payloadIn-short : (size : ℕ) → size ≡ numberAt logRecord 5 1 → payloadIn logRecord ≡ take size (drop 6 logRecord)
-  unfolding payloadIn
-  payloadIn-short size e = ap (λ (n : ℕ). take n (drop 6 logRecord)) (sym e)
-
 -- the pieces of a log record's line, put one behind the other
 pub put-pieces : {t₀ t₁ t₂ t₃ t₄ t₅ : List ℕ} {at p₁ p₂ p₃ p₄ p₅ : ℕ} (logRecord : List ℕ) (source deadline : ℕ) (payload : List ℕ)
-    → source ≡ numberAt logRecord 0 1
-    → deadline ≡ numberAt logRecord 1 4
+    → source ≡ fieldsIn logRecord .source
+    → deadline ≡ fieldsIn logRecord .deadline
     → payload ≡ payloadIn logRecord
     → at ≤ length t₀
     → Put t₀ at (ascii "hand ") t₁ p₁
@@ -59,11 +48,10 @@ put-pieces logRecord source deadline payload s d p within word first second thir
     rw (← s, ← d, ← p) (put-put within (put-put within (put-put within (put-put within word first) second) third) end)
 
 -- the line of one log record more
-pub put-next-line : {t₀ t₁ t₂ : List ℕ} {at p₁ p₂ : ℕ} (output : List ℕ) (i : ℕ) (logRecord : List ℕ)
-    → logRecord ≡ take 38 (drop (i * 38) output)
+pub put-next-line : {t₀ t₁ t₂ : List ℕ} {at p₁ p₂ : ℕ} (output : List ℕ) (i : ℕ)
     → at ≤ length t₀
     → Put t₀ at (handLines i output) t₁ p₁
-    → Put t₁ p₁ (handLine logRecord) t₂ p₂
+    → Put t₁ p₁ (handLine (logRecordAt output i)) t₂ p₂
     → Put t₀ at (handLines (i + 1) output) t₂ p₂
-unfolding handLines logRecordAt
-put-next-line output i logRecord e within before next = rw (add-one, ← e) (put-put within before next)
+unfolding handLines
+put-next-line output i within before next = rw add-one (put-put within before next)

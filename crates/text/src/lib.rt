@@ -1,15 +1,18 @@
 // The text that the program "list" prints: words, decimal and hexadecimal numbers, and lines, put
 // into a buffer. Each function gives the place behind what it has put. An internal crate: its
 // functions ask their callers for room.
+use log_records::log_payload;
+use log_records::panel_log_fields;
 use numbers::number_at;
 use numbers::put_bytes;
 ghost use mathlib.Core.Path.{_≡_};
 ghost use mathlib.Core.List.{_∷_, []};
 ghost use Prim.Native.Nat.{_+_, _*_, _<_, _≤_};
 ghost use lib.ListN.{length};
+ghost use Rattle.log_records.specs.LogRecords.{logRecordAt};
 ghost use Rattle.text.specs.Text.{decimal, hexadecimal};
 ghost use Rattle.text.specs.Text.{digit as digitOf};
-ghost use Rattle.text.specs.Lines.{item, outcome, frameLine, payloadIn, payloadText, handLine, handLines};
+ghost use Rattle.text.specs.Lines.{item, outcome, frameLine, payloadText, handLine, handLines};
 ghost use Rattle.text.specs.Put.{Room, Put};
 
 // Puts words.
@@ -101,19 +104,6 @@ pub fn put_frame_line(text: &mut [u8], at: usize, frame: u64, number: u8) -> usi
     put_words(text, end, b"\n")
 }
 
-// The payload of a log record.
-fn payload_in(log_record: &[u8]) -> &[u8]
-    requires { ⌜ length (now log_record) ≡ 38 ⌝ }
-    ensures { λ r. ⌜ (now r ≡ payloadIn (now (log_record .entry))) × (length (now r) ≤ 32) ⌝ }
-{
-    let length = number_at(log_record, 5, 1) as usize;
-    if 32 < length {
-        return &log_record[6..];
-    }
-    let end = 6 + length;
-    &log_record[6..end]
-}
-
 // Puts a payload in hexadecimal, or `-` for an empty one.
 fn put_payload<'a, 'b>(text: &'a mut [u8], at: usize, payload: &'b [u8]) -> usize
     requires { ⌜ Room (now text) at 64 × (length (now payload) ≤ 32) ⌝ }
@@ -125,15 +115,16 @@ fn put_payload<'a, 'b>(text: &'a mut [u8], at: usize, payload: &'b [u8]) -> usiz
     put_hexadecimal(text, at, payload)
 }
 
-// Puts the line of a log record.
-fn put_hand_line<'a, 'b>(text: &'a mut [u8], at: usize, log_record: &'b [u8]) -> usize
-    requires { ⌜ Room (now text) at 112 × (length (now log_record) ≡ 38) ⌝ }
-    ensures { λ r. ⌜ Put (now (text .entry)) at (handLine (now (log_record .entry))) (now (text .exit)) r × (r ≤ at + 112) ⌝ }
+// Puts the line of the log record of that index.
+fn put_hand_line<'a, 'b>(text: &'a mut [u8], at: usize, output: &'b [u8], index: usize) -> usize
+    requires { ⌜ Room (now text) at 112 ⌝ }
+    ensures { λ r. ⌜ Put (now (text .entry)) at (handLine (logRecordAt (now (output .entry)) index)) (now (text .exit)) r × (r ≤ at + 112) ⌝ }
 {
+    let fields = panel_log_fields(output, index);
     let first = put_words(text, at, b"hand ");
-    let second = put_item(text, first, number_at(log_record, 0, 1));
-    let third = put_item(text, second, number_at(log_record, 1, 4));
-    let end = put_payload(text, third, payload_in(log_record));
+    let second = put_item(text, first, fields.source as u64);
+    let third = put_item(text, second, fields.deadline as u64);
+    let end = put_payload(text, third, log_payload(output, index));
     put_words(text, end, b"\n")
 }
 
@@ -144,15 +135,13 @@ pub fn put_hand_lines<'a, 'b>(
     output: &'b [u8],
     count: usize,
 ) -> usize
-    requires { ⌜ Room (now text) at (count * 112) × (count * 38 ≤ length (now output)) ⌝ }
+    requires { ⌜ Room (now text) at (count * 112) ⌝ }
     ensures { λ r. ⌜ Put (now (text .entry)) at (handLines count (now (output .entry))) (now (text .exit)) r × (r ≤ at + count * 112) ⌝ }
 {
     let mut behind = at;
     let mut i = 0;
     while i < count {
-        let start = i * 38;
-        let end = start + 38;
-        behind = put_hand_line(text, behind, &output[start..end]);
+        behind = put_hand_line(text, behind, output, i);
         i += 1;
     }
     behind

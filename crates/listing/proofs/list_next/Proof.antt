@@ -51,7 +51,7 @@ put-hand-lines-requires c κs =
     let line = c .before .before .before .before .put-frame-line .ensures in
     let count = few (c .before .before .before .before .before .before .before .before) in
     let start = c .before .before .before .before .before .before .before .before .before .before .before .before .before .before .before .before .before .before in
-    (omega (arith, line .0 .kept, line .1, start .pre .room), omega arith)
+    omega (arith, line .0 .kept, line .1, start .pre .room)
 
 enum-told : tie.Need-enum-told
 enum-told c = search needs

@@ -1,10 +1,8 @@
 -- `text::put_hand_lines` meets its contract: after i turns the lines of the first i log records are put. Assumes nothing.
-use mathlib.Core.Path.{_≡_, ap, _∙_}
-use Prim.Native.Nat.{ℕ, _+_, _*_, _-_, _≤_}
+use mathlib.Core.Path.{_≡_}
+use Prim.Native.Nat.{_+_, _*_, _-_, _≤_}
 use native.Mathlib.Omega.{arith}
 use borrow.Author.Needs.{needs}
-use lib.ListN.{take, drop, length-drop}
-use lib.Seq.{length-take-le}
 use Rattle.text.specs.Lines.{handLines}
 use Rattle.text.specs.Put.{Put}
 use Rattle.text.proofs.Puts.{put-nil}
@@ -23,29 +21,8 @@ loop-holds : tie.Need-loop-holds Inv-loop μ-loop
 unfolding handLines
 loop-holds c = (omega arith, put-nil _ _, omega arith)
 
-mul-start : tie.Need-mul-start Inv-loop μ-loop
-mul-start c = search needs
-
-add-end : tie.Need-add-end Inv-loop μ-loop
-add-end c = search needs
-
-sub-put-hand-line : tie.Need-sub-put-hand-line Inv-loop μ-loop
-sub-put-hand-line c = search needs
-
-part-put-hand-line-start : tie.Need-part-put-hand-line-start Inv-loop μ-loop
-part-put-hand-line-start c = search needs
-
-part-put-hand-line-end : tie.Need-part-put-hand-line-end Inv-loop μ-loop
-part-put-hand-line-end c = search needs
-
 put-hand-line-requires : tie.Need-put-hand-line-requires Inv-loop μ-loop
-put-hand-line-requires c κs =
-    let l = c .before .before .before .loop in
-    let output = c .before .before .before .before .before .before .args .output .now in
-    let rest = length-drop (l .i * 38) output in (
-      omega (arith, l .inv .1 .kept),
-      length-take-le (l .i * 38 + 38 - l .i * 38) (drop (l .i * 38) output) (omega arith) ∙ omega arith,
-    )
+put-hand-line-requires c κs = let l = c .before .before .loop in omega (arith, l .inv .1 .kept)
 
 add-i : tie.Need-add-i Inv-loop μ-loop
 add-i c = search needs
@@ -55,12 +32,11 @@ loop-less c = search needs
 
 loop-again : tie.Need-loop-again Inv-loop μ-loop
 loop-again c =
-    let l = c .before .before .before .before .before .before .loop in
-    let output = c .before .before .before .before .before .before .before .before .before .args .output .now in
-    let line = c .before .before .put-hand-line .ensures in
-    let size : l .i * 38 + 38 - l .i * 38 ≡ 38 = omega arith in (
+    let l = c .before .before .before .before .before .loop in
+    let output = c .before .before .before .before .before .before .before .before .args .output .now in
+    let line = c .before .before .put-hand-line .ensures in (
       omega arith,
-      put-next-line output (l .i) _ (ap (λ (n : ℕ). take n (drop (l .i * 38) output)) size) (omega arith) (l .inv .1) (line .0),
+      put-next-line output (l .i) (omega arith) (l .inv .1) (line .0),
       omega (arith, line .1),
     )
 
@@ -81,11 +57,6 @@ put-hand-lines-spec =
     Inv-loop
     μ-loop
     loop-holds
-    mul-start
-    add-end
-    sub-put-hand-line
-    part-put-hand-line-start
-    part-put-hand-line-end
     put-hand-line-requires
     add-i
     loop-less

@@ -1,6 +1,6 @@
 -- Where log records stand in a log: the places of one are places of the log, and when it is whole. Assumes nothing.
 use mathlib.Core.Path.{_≡_, refl, sym, ap, _∙_}
-use mathlib.Core.Bool.{Bool, true, false, cond, _&&_}
+use mathlib.Core.Bool.{Bool, true, false}
 use mathlib.Core.List.{List, [], _∷_}
 use Prim.Native.Nat.{ℕ, zero, suc, _+_, _*_, _-_, _≤_, _<_}
 use native.Mathlib.Nat.{zero-add, suc-add, add-zero}
@@ -12,7 +12,6 @@ use borrow.Author.Tests.{leb-true, eq-eqb, eqb-true, ne-eqb}
 use Rattle.numbers.specs.Numbers.{number, numberAt}
 use Rattle.frame.proofs.Conjunction.{and-both}
 use Rattle.rules.specs.Sizes.{width, logRecordLength}
-use Rattle.log_records.specs.declared.LogFields.{LogFields}
 use Rattle.log_records.specs.LogRecords.{logRecordAt, isWhole, fieldsIn, payloadIn, payloadPlace}
 
 drop-take : (k n : ℕ) (l : List ℕ) → drop k (take (k + n) l) ≡ take n (drop k l)

@@ -1,5 +1,5 @@
 -- Log records as a call wrote them are read back: at each index the message of that index, and behind the last one none. Assumes nothing.
-use mathlib.Core.Path.{_≡_, refl, sym, ap, _∙_, subst}
+use mathlib.Core.Path.{_≡_, refl, sym, ap, _∙_}
 use mathlib.Core.Bool.{true}
 use mathlib.Core.List.{List, [], _∷_, _++_, append-assoc, List·Memᴰ·head as first, List·Memᴰ·tail as later}
 use Prim.Native.Nat.{ℕ, zero, suc, _+_, _*_, _-_, _^_, _≤_, _<_}
@@ -12,11 +12,11 @@ use Rattle.numbers.specs.Buffer.{over}
 use Rattle.numbers.proofs.BigEndian.{length-bigEndian}
 use Rattle.numbers.proofs.NumberAt.{numberAt-bigEndian, numberAt-drop}
 use Rattle.frame.specs.Message.{Message}
+use Rattle.frame.proofs.Readable.{Readable}
 use Rattle.rules.specs.Sizes.{width, logRecordLength}
 use Rattle.rules.specs.Handing.{logRecord, logRecords}
 use Rattle.rules.specs.Lists.{_isIn_}
 use Rattle.rules.proofs.LogRecords.{length-logRecord}
-use Rattle.log_records.specs.declared.LogFields.{LogFields}
 use Rattle.log_records.specs.LogRecords.{logRecordAt, isWhole, fieldsIn, payloadIn}
 use Rattle.log_records.proofs.Places.{cut-not-whole, fields-none, payload-none}
 
@@ -25,6 +25,10 @@ pub record Fits (m : Message) : Type 0 where
   pub source : m .source ≤ 63
   pub deadline : m .deadline < 256 ^ width
   pub payload : length (m .payload) ≤ 32
+
+-- every message that has a frame fits
+pub readable-fits : (m : Message) → Readable width m → Fits m
+readable-fits m r = record { source = omega (arith, r .source); deadline = r .fits; payload = r .payload }
 
 -- the bytes read as the message: source, deadline, length and payload
 pub record ReadsAs (bytes : List ℕ) (m : Message) : Type 0 where
@@ -114,7 +118,8 @@ later-at m rest i fits =
     ∙ sym (drop-drop (i * logRecordLength) logRecordLength (logRecord m ++ rest))
     ∙ ap (drop (i * logRecordLength)) (drop-at (logRecord m) rest logRecordLength (length-logRecord m (fits .payload))))
 
--- Of the log records of messages, with any bytes behind them, that of index i reads as the i-th message.
+-- Of the log records of messages, with any bytes behind them, that of index i reads as the i-th message (`other` is what `getD` would give past
+-- the last one).
 pub reads-back : (ms : List Message) (rest : List ℕ) (i : ℕ) (other : Message) → EachFits ms → i < length ms
     → ReadsAs (logRecordAt (logRecords ms ++ rest) i) (getD ms i other)
 unfolding logRecords

@@ -1,61 +1,59 @@
 /* Reads the library's record into the reference's; fills slots. */
 #include "convert.h"
 
-#include <string.h>
+#include "reference_frames.h"
 
-static uint32_t get32(const uint8_t *b)
-{
-    return (uint32_t)b[0] << 24 | (uint32_t)b[1] << 16 |
-           (uint32_t)b[2] << 8 | b[3];
-}
+_Static_assert(FRONT == offsetof(Record, waiting), "front");
+_Static_assert(offsetof(Panel, own) == offsetof(Record, own), "own");
+_Static_assert(offsetof(Panel, time) == offsetof(Record, time), "time");
+_Static_assert(offsetof(Panel, high) == offsetof(Record, high), "high");
+_Static_assert(offsetof(Panel, count) == offsetof(Record, count), "count");
+_Static_assert(offsetof(Panel, marks) == offsetof(Record, marks), "marks");
+_Static_assert(offsetof(Panel, barrier) == offsetof(Record, barrier), "barrier");
 
 /*
  * Damage that the fields can show (source, entries, payload length) is
  * carried over; any other damage is shown by deadline 0.
  */
-static void message_of_slot(const uint8_t *slot, Message *m)
+static void message_of_slot(const uint8_t *slot, Message *message)
 {
-    size_t n = (size_t)slot[0] << 8 | slot[1];
+    size_t length = (size_t)slot[0] << 8 | slot[1];
     const uint8_t *frame = slot + 2;
 
-    memset(m, 0, sizeof *m);
-    uint8_t number = n > FRAME_MAX ? 8 : c_frame_read(frame, n, m);
+    memset(message, 0, sizeof *message);
+    uint8_t number = length > FRAME_MAX ? 8 : c_frame_read(frame, length, message);
     if (number == 0)
         return;
 
-    memset(m, 0, sizeof *m);
+    memset(message, 0, sizeof *message);
     if (number != 4 && number != 6 && number != 7)
         return;
-    m->source = frame[5];
-    m->deadline = get32(frame + 6);
+    message->source = frame[5];
+    message->deadline = get32(frame + 6);
     if (number == 4) {
-        m->deadline |= 1;
+        message->deadline |= 1;
         return;
     }
-    m->mask = (uint64_t)get32(frame + 10) << 32 | get32(frame + 14);
-    size_t entries = (size_t)__builtin_popcountll(m->mask);
+    message->mask = get64(frame + 10);
+    size_t entries = (size_t)__builtin_popcountll(message->mask);
     for (size_t k = 0; k < entries; k++)
-        m->entries[k] = get32(frame + 18 + 4 * k);
-    m->length = frame[18 + 4 * entries];
+        message->entries[k] = get32(frame + HEAD + 4 * k);
+    message->length = frame[HEAD + 4 * entries];
 }
 
-void record_of_panel(const Panel *p, Record *r)
+void record_of_panel(const Panel *panel, Record *record)
 {
-    memset(r, 0, sizeof *r);
-    r->own = p->own;
-    r->time = p->time;
-    r->high = p->high;
-    r->count = p->count;
-    memcpy(r->marks, p->marks, sizeof r->marks);
-    memcpy(r->barrier, p->barrier, sizeof r->barrier);
-    for (size_t i = 0; i < p->count && i < WAITING_MAX; i++)
-        message_of_slot(p->slots + PANEL_SLOT_BYTES * i, &r->waiting[i]);
+    memset(record, 0, sizeof *record);
+    memcpy(record, panel, FRONT);
+    for (size_t i = 0; i < panel->count && i < WAITING_MAX; i++)
+        message_of_slot(panel->slots + PANEL_SLOT_BYTES * i, &record->waiting[i]);
 }
 
-void slot_write(Panel *p, size_t place, const Message *m)
+size_t slot_write(Panel *panel, size_t place, const Message *message)
 {
-    uint8_t *slot = p->slots + PANEL_SLOT_BYTES * place;
-    size_t n = c_frame_write(m, slot + 2);
-    slot[0] = (uint8_t)(n >> 8);
-    slot[1] = (uint8_t)n;
+    uint8_t *slot = panel->slots + PANEL_SLOT_BYTES * place;
+    size_t length = c_frame_write(message, slot + 2);
+    slot[0] = (uint8_t)(length >> 8);
+    slot[1] = (uint8_t)length;
+    return 2 + length;
 }

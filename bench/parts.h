@@ -12,7 +12,8 @@ void agreement_part(unsigned long calls, uint64_t seed);
 
 /*
  * Makes the calls of each row under callgrind: the sides of a row one after
- * another, each in a call of the function `counted`. Prints nothing.
+ * another, each in a call of the function `counted`, and what it puts back in
+ * another. Prints nothing.
  */
 void count_part(void);
 

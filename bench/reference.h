@@ -1,8 +1,8 @@
 /*
  * The causal message module of the dryer panel, written by hand in C.
- * Every call works in place on the record behind its pointer and answers
- * 0 or the refusal number; a refused call changes nothing and its count
- * and length are 0.
+ * Every call works in place on the record behind its pointer and answers 0 or
+ * the number of the refusal; a refused call changes nothing, and its count and
+ * length are 0.
  */
 #ifndef REFERENCE_H
 #define REFERENCE_H
@@ -25,7 +25,7 @@ typedef struct {
     uint8_t source;
     uint8_t length;
     uint64_t mask;
-    uint32_t entries[PANELS]; /* packed: one per mask bit, lowest panel first */
+    uint32_t entries[PANELS]; /* packed: one for each bit of the mask, lowest panel first */
     uint8_t payload[PAYLOAD_MAX];
 } Message;
 
@@ -42,12 +42,12 @@ typedef struct {
 /* Bytes lent to a call: some that it reads, or a buffer that it writes to. */
 typedef struct {
     const uint8_t *bytes;
-    size_t n;
+    size_t length;
 } Slice;
 
 typedef struct {
     uint8_t *bytes;
-    size_t n;
+    size_t length;
 } Buffer;
 
 /* What a call wrote: log records to the output, a frame to its buffer. */
@@ -56,19 +56,40 @@ typedef struct {
     size_t length;
 } Written;
 
-uint8_t c_fresh(Record *r, uint8_t own);
-uint8_t c_send(Record *r, Slice payload, uint16_t lifetime, Buffer output,
+uint8_t c_fresh(Record *record, uint8_t own);
+uint8_t c_send(Record *record, Slice payload, uint16_t lifetime, Buffer output,
                Buffer buffer, Written *written);
-uint8_t c_receive(Record *r, Slice frame, Buffer output, Written *written);
-uint8_t c_clock(Record *r, uint32_t time, Buffer output, Written *written);
+uint8_t c_receive(Record *record, Slice frame, Buffer output, Written *written);
+uint8_t c_clock(Record *record, uint32_t time, Buffer output, Written *written);
 
-/* The refusal number of reading a frame, or 0. */
-uint8_t c_frame_check(const uint8_t *frame, size_t n);
+/* The number of the refusal of reading a frame, or 0. */
+uint8_t c_frame_check(const uint8_t *frame, size_t length);
 
-/* Reads a frame into *m, whose content is open if the frame is refused. */
-uint8_t c_frame_read(const uint8_t *frame, size_t n, Message *m);
+/* Reads a frame into *message, whose content is open if the frame is refused. */
+uint8_t c_frame_read(const uint8_t *frame, size_t length, Message *message);
 
 /* Writes the frame of a readable message and gives its length. */
-size_t c_frame_write(const Message *m, uint8_t *frame);
+size_t c_frame_write(const Message *message, uint8_t *frame);
+
+/* ---- Readers of a log and of a bundle ---- */
+
+typedef struct {
+    const uint8_t *payload;
+    uint32_t deadline; /* 0: there is no such record */
+    uint8_t source;
+    uint8_t length;
+} LogRecord;
+
+LogRecord c_log_record(Slice log, size_t index);
+
+typedef struct {
+    Slice bytes;
+    size_t place;
+} Bundle;
+
+typedef enum { BUNDLE_FRAME, BUNDLE_END, BUNDLE_BROKEN } BundleStep;
+
+/* Gives the next frame, and moves the place behind it; at the end and if broken none. */
+BundleStep c_bundle_next(Bundle *bundle, Slice *frame);
 
 #endif

@@ -2,13 +2,14 @@
 #ifndef FRAMES_H
 #define FRAMES_H
 
-#include "../include/panel.h"
-#include "reference.h"
+#include "../reference.h"
+
+#include <panel.h>
 
 enum { BYTES_MAX = 512 };
 
 typedef struct {
-    size_t n;
+    size_t length;
     uint8_t bytes[BYTES_MAX];
 } Bytes;
 
@@ -19,12 +20,12 @@ void forget_frames(void);
 uint64_t random_mask(void);
 
 /* A readable message; its entries lie about the marks and about the time. */
-void random_message(Message *m, const Panel *p, uint8_t source,
+void random_message(Message *message, const Panel *panel, uint8_t source,
                     uint32_t deadline, uint64_t mask);
 
 /* Spoils a frame in one way, mostly by a single field. */
-void damage(Bytes *b);
+void damage(Bytes *frame);
 
-void random_frame(Bytes *b, const Panel *p);
+void random_frame(Bytes *frame, const Panel *panel);
 
 #endif

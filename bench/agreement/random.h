@@ -1,4 +1,4 @@
-/* Random numbers; the same seed gives the same ones. */
+/* Random numbers; with the same compiler the same seed gives the same ones. */
 #ifndef RANDOM_H
 #define RANDOM_H
 
@@ -11,14 +11,14 @@ void random_start(uint64_t seed);
 /* The seed that the numbers were started with. */
 uint64_t random_seed(void);
 
-uint64_t rnd64(void);
+uint64_t random_64(void);
 
-/* Below n. */
-uint32_t rnd(uint32_t n);
+/* Below count. */
+uint32_t random_below(uint32_t count);
 
 bool chance(uint32_t in_1000);
 
-void rnd_bytes(uint8_t *b, size_t n);
+void random_bytes(uint8_t *bytes, size_t count);
 
 /* The sum, held within 32 bits. */
 uint32_t plus(uint32_t a, int64_t b);

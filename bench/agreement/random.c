@@ -16,7 +16,7 @@ uint64_t random_seed(void)
     return started_with;
 }
 
-uint64_t rnd64(void)
+uint64_t random_64(void)
 {
     uint64_t z = (state += 0x9E3779B97F4A7C15u);
     z = (z ^ z >> 30) * 0xBF58476D1CE4E5B9u;
@@ -24,26 +24,26 @@ uint64_t rnd64(void)
     return z ^ z >> 31;
 }
 
-uint32_t rnd(uint32_t n)
+uint32_t random_below(uint32_t count)
 {
-    return (uint32_t)((rnd64() >> 32) * n >> 32);
+    return (uint32_t)((random_64() >> 32) * count >> 32);
 }
 
 bool chance(uint32_t in_1000)
 {
-    return rnd(1000) < in_1000;
+    return random_below(1000) < in_1000;
 }
 
-void rnd_bytes(uint8_t *b, size_t n)
+void random_bytes(uint8_t *bytes, size_t count)
 {
-    while (n >= 8) {
-        uint64_t x = rnd64();
-        memcpy(b, &x, 8);
-        b += 8;
-        n -= 8;
+    while (count >= 8) {
+        uint64_t eight = random_64();
+        memcpy(bytes, &eight, 8);
+        bytes += 8;
+        count -= 8;
     }
-    for (; n > 0; n--)
-        *b++ = (uint8_t)rnd64();
+    for (; count > 0; count--)
+        *bytes++ = (uint8_t)random_64();
 }
 
 uint32_t plus(uint32_t a, int64_t b)

@@ -1,0 +1,162 @@
+/* Each call made on both sides, and all that they answer compared. */
+#include "both.h"
+
+#include "compare.h"
+#include "random.h"
+#include "seen.h"
+
+#include <string.h>
+
+unsigned long calls_made;
+
+/* ---- Lent buffers ---- */
+
+/*
+ * Each call lends a part of a pair of buffers with the same random bytes; all
+ * bytes are compared afterwards, those before and behind the part too.
+ */
+enum { MARGIN = 64, LENT_MAX = 2048, BUFFER = MARGIN + LENT_MAX + MARGIN };
+
+typedef struct {
+    size_t length;
+    uint8_t proved[BUFFER];
+    uint8_t c[BUFFER];
+} Lent;
+
+static Lent output, buffer;
+
+static void lend(Lent *lent, size_t least)
+{
+    random_bytes(lent->proved, BUFFER);
+    memcpy(lent->c, lent->proved, BUFFER);
+    if (chance(12))
+        lent->length = least - 1;
+    else if (chance(12))
+        lent->length = random_below((uint32_t)least);
+    else if (chance(500))
+        lent->length = least;
+    else
+        lent->length = least + random_below((uint32_t)(LENT_MAX - least + 1));
+}
+
+static Buffer lent_to_c(Lent *lent)
+{
+    return (Buffer){lent->c + MARGIN, lent->length};
+}
+
+static void same_lent(const char *what, const Lent *lent)
+{
+    same_bytes(what, lent->proved, lent->c, BUFFER, MARGIN);
+}
+
+/* ---- One call on both sides ---- */
+
+static uint8_t bytes_before[BUFFER]; /* a copy of the bytes that the call is given */
+
+static void start_call(Kind kind, const char *what, uint64_t value, Slice bytes)
+{
+    call.call = ++calls_made;
+    call.kind = kind;
+    call.what = what;
+    call.value = value;
+    call.bytes = bytes.bytes;
+    call.length = bytes.length;
+    call.output_length = 0;
+    memcpy(bytes_before, bytes.bytes, bytes.length);
+}
+
+/* For a call that is given a record and an output. */
+static void start_on_record(const Panel *panel, const Record *record)
+{
+    lend(&output, OUTPUT_MIN);
+    lend(&buffer, FRAME_MAX);
+    call.output_length = output.length;
+    memcpy(&call.panel, panel, sizeof call.panel);
+    memcpy(&call.record, record, sizeof call.record);
+}
+
+static void end_call(PanelNumber number, uint8_t c_number)
+{
+    saw_number(c_number);
+    same_number("the number", number, c_number);
+    if (memcmp(bytes_before, call.bytes, call.length) != 0)
+        differ("the bytes given were written to");
+}
+
+static void end_on_record(PanelAnswer answer, uint8_t c_number, Written written,
+                          const Panel *panel, const Record *record)
+{
+    end_call(answer.number, c_number);
+    same_number("the count of log records", answer.count, written.count);
+    same_number("the length of the frame", answer.length, written.length);
+    same_lent("output", &output);
+    same_lent("frame buffer", &buffer);
+    if (c_number != 0) {
+        same_as_given(panel, record);
+        return;
+    }
+    same_record(panel, record);
+    saw_accepted(written.count, record->count);
+    for (size_t i = 0; i <= written.count; i++)
+        both_log((Slice){output.proved + MARGIN, LOG_RECORD * written.count}, i);
+}
+
+void both_fresh(uint8_t own, Panel *panel, Record *record)
+{
+    static const Panel zeros;
+    uint8_t none = 0;
+
+    start_call(FRESH, "own", own, (Slice){&none, 0});
+    random_bytes((uint8_t *)panel, sizeof *panel);
+    PanelNumber number = panel_fresh(panel, own);
+    end_call(number, c_fresh(record, own));
+    same_record(panel, record);
+    same_bytes("slots of a fresh panel", panel->slots, zeros.slots, sizeof zeros.slots, 0);
+}
+
+void both_send(Panel *panel, Record *record, Slice payload, uint16_t lifetime, Bytes *frame)
+{
+    Written written;
+
+    start_call(SEND, "lifetime", lifetime, payload);
+    start_on_record(panel, record);
+    PanelAnswer answer = panel_send(panel, payload.bytes, payload.length, lifetime,
+                                    output.proved + MARGIN, output.length,
+                                    buffer.proved + MARGIN, buffer.length);
+    uint8_t number = c_send(record, payload, lifetime, lent_to_c(&output),
+                            lent_to_c(&buffer), &written);
+    end_on_record(answer, number, written, panel, record);
+    frame->length = written.length;
+    memcpy(frame->bytes, buffer.c + MARGIN, frame->length);
+}
+
+void both_receive(Panel *panel, Record *record, Slice frame)
+{
+    Written written;
+
+    start_call(RECEIVE, "receive", 0, frame);
+    start_on_record(panel, record);
+    PanelAnswer answer = panel_receive(panel, frame.bytes, frame.length,
+                                       output.proved + MARGIN, output.length);
+    uint8_t number = c_receive(record, frame, lent_to_c(&output), &written);
+    end_on_record(answer, number, written, panel, record);
+}
+
+void both_clock(Panel *panel, Record *record, uint32_t time)
+{
+    Written written;
+    uint8_t none = 0;
+
+    start_call(CLOCK, "reading", time, (Slice){&none, 0});
+    start_on_record(panel, record);
+    PanelAnswer answer = panel_clock(panel, time, output.proved + MARGIN, output.length);
+    uint8_t number = c_clock(record, time, lent_to_c(&output), &written);
+    end_on_record(answer, number, written, panel, record);
+}
+
+void both_check(Slice frame)
+{
+    start_call(CHECK, "check", 0, frame);
+    PanelNumber number = panel_frame_check(frame.bytes, frame.length);
+    end_call(number, c_frame_check(frame.bytes, frame.length));
+}

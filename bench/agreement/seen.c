@@ -1,0 +1,64 @@
+/* Counts the answers, and prints how often each came. */
+#include "seen.h"
+
+#include "both.h"
+
+#include <stdbool.h>
+#include <stdio.h>
+
+static unsigned long seen[KINDS][256];
+static unsigned long handed_seen[WAITING_MAX + 2];
+static unsigned long waiting_seen[WAITING_MAX + 1];
+
+void saw_number(uint8_t number)
+{
+    seen[call.kind][number]++;
+}
+
+void saw_accepted(size_t handed, size_t waiting)
+{
+    handed_seen[handed]++;
+    waiting_seen[waiting]++;
+}
+
+static void print_numbers(void)
+{
+    printf("number ");
+    for (int kind = 0; kind <= CHECK; kind++)
+        printf("%10s", kind_name[kind]);
+    printf("\n");
+    for (int number = 0; number < 256; number++) {
+        unsigned long all = 0;
+        for (int kind = 0; kind <= CHECK; kind++)
+            all += seen[kind][number];
+        bool listed = number <= 11 || (number >= 20 && number <= 26);
+        if (all == 0 && !listed)
+            continue;
+        printf("%6d ", number);
+        for (int kind = 0; kind <= CHECK; kind++)
+            printf("%10lu", seen[kind][number]);
+        printf("%s\n", all == 0 ? "  NEVER" : "");
+    }
+}
+
+static unsigned long sum(const unsigned long *counts, int first, int last)
+{
+    unsigned long all = 0;
+    for (int i = first; i <= last; i++)
+        all += counts[i];
+    return all;
+}
+
+void print_seen(void)
+{
+    printf("%lu calls agree.\n\n", calls_made);
+    print_numbers();
+    printf("\nlog records of accepted calls: none %lu, 1 %lu, 2 to 7 %lu, 8 to 31 %lu, "
+           "32 %lu, 33 %lu\n", handed_seen[0], handed_seen[1], sum(handed_seen, 2, 7),
+           sum(handed_seen, 8, 31), handed_seen[32], handed_seen[33]);
+    printf("waiting after accepted calls: none %lu, 1 to 31 %lu, 32 %lu\n", waiting_seen[0],
+           sum(waiting_seen, 1, WAITING_MAX - 1), waiting_seen[WAITING_MAX]);
+    printf("log records read: %lu, and %lu times there was none\n", seen[LOG][0], seen[LOG][1]);
+    printf("bundles read: %lu frames, %lu ends, %lu broken\n\n", seen[BUNDLE][BUNDLE_FRAME],
+           seen[BUNDLE][BUNDLE_END], seen[BUNDLE][BUNDLE_BROKEN]);
+}

@@ -1,0 +1,76 @@
+/* Rows of a receive that is refused. */
+#include "rows.h"
+
+#include <stdio.h>
+
+/* By the reading: the longest frame, damaged, and one of 18 bytes. */
+static void by_reading_rows(void)
+{
+    Message largest = longest(50, 2000), shortest = plain(50, 2000, 0);
+    char label[80];
+
+    empty();
+    to_receive(&shortest);
+    damaged(1);
+    row("receive refused, 1, 18 bytes", 1, 0);
+    for (uint8_t number = 1; number <= 8; number++) {
+        to_receive(&largest);
+        damaged(number);
+        snprintf(label, sizeof label, "receive refused, %u, %zu bytes", number, now.length);
+        row(label, number, 0);
+    }
+}
+
+static void with_none_waiting_rows(void)
+{
+    Message usual_one = usual(50, 2000), own = usual(63, 2000);
+
+    empty();
+    to_receive(&usual_one);
+    now.output_length = OUTPUT_MIN - 1;
+    row("receive refused, 10, 0 waiting", 10, 0);
+    now.output_length = OUTPUT_MIN;
+    to_receive(&own);
+    row("receive refused, 20, 0 waiting", 20, 0);
+    to_receive(&usual_one);
+    now.panel.time = 2001;
+    row("receive refused, 21, 0 waiting", 21, 0);
+    now.panel.time = 10;
+    now.panel.marks[50] = now.panel.high = 2000;
+    row("receive refused, 22 by mark, 0 waiting", 22, 0);
+    now.panel.own = PANELS;
+    row("receive refused, 26 by own number", 26, 0);
+}
+
+static void with_some_waiting_rows(void)
+{
+    Message waits = early(50, 2000), handed = usual(50, 2000), between = middle(0, 1000);
+    Message last = plain(0, 1000, 0); /* the first of the chain, in the last place */
+
+    entry(&last, 62, 500);
+    chain(4);
+    now.panel.marks[50] = now.panel.high = 2000;
+    to_receive(&handed);
+    row("receive refused, 22 by mark, 4 waiting", 22, 0);
+    chain(32);
+    now.panel.marks[50] = now.panel.high = 2000;
+    to_receive(&handed);
+    row("receive refused, 22 by mark, 32 waiting", 22, 0);
+    chain(32);
+    to_receive(&last);
+    row("receive refused, 22 by the last of 32 waiting", 22, 0);
+    to_receive(&waits);
+    row("receive refused, 23, 32 waiting", 23, 0);
+    now.panel.slots[PANEL_SLOT_BYTES * 31 + 1]++;
+    row("receive refused, 26 by the last of 32 waiting", 26, 0);
+    middle_frames(32);
+    to_receive(&between);
+    row("receive refused, 22, 32 waiting of 16 entries", 22, 0);
+}
+
+void receive_refusal_rows(void)
+{
+    by_reading_rows();
+    with_none_waiting_rows();
+    with_some_waiting_rows();
+}

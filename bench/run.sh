@@ -1,15 +1,24 @@
 #!/bin/sh
-# run.sh [CALLS [ROUNDS [SEED]]]: builds the archives, the program "list" and
-# the benchmark, and runs all of it. CC chooses the compiler. CALLS 0 leaves
-# out the agreement, ROUNDS 0 the rest.
+# run.sh [CALLS [ROUNDS [SEED]]]: installs the module to target/install, builds
+# the program "list", and the benchmark against what is installed, and runs all
+# of it. CC chooses the compiler. CALLS 0 leaves out the agreement, ROUNDS 0 the
+# rest.
 set -e
 cd "$(dirname "$0")/.."
 calls=${1:-200000} rounds=${2:-200} seed=${3:-20240601}
 CC=${CC:-gcc}
-flags="-O3 -std=c11 -D_GNU_SOURCE -Wall -Wextra -Werror"
+to=$PWD/target/install
 built=target/bench
-. examples/archives.sh
-quietly rt check list
+flags="-O3 -std=c11 -D_GNU_SOURCE -Wall -Wextra -Werror"
+
+# Shows what a command prints only if it fails.
+quietly() {
+    "$@" >$built/log 2>&1 || {
+        status=$?
+        cat $built/log >&2
+        exit $status
+    }
+}
 
 # Has callgrind count the instructions of the calls, and lists the sums. The
 # setting is for libc: without it a copy is one instruction that callgrind
@@ -24,9 +33,13 @@ count() {
         sed -n 's/^totals: //p' $built/counted >$built/counts
 }
 
-$CC $flags -o $built/bench bench/*.c $archives -lpthread
+mkdir -p $built
+./install.sh "$to"
+quietly rt check list
+$CC $flags -I"$to/include" -o $built/bench bench/*.c bench/agreement/*.c bench/table/*.c \
+    "$to/lib/libpanel.a" -lpthread
 $CC $flags -o $built/list bench/list/list.c bench/reference.c
-$CC $flags -o $built/list_times bench/list/times.c
+$CC $flags -o $built/list_times bench/list/times.c bench/list/bundles.c
 
 echo "date        $(date +%Y-%m-%d)"
 echo "machine     $(sed -n 's/^model name[^:]*: //p' /proc/cpuinfo | head -n 1), $(uname -m)"

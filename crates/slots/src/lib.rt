@@ -1,7 +1,6 @@
 // The waiting list as it lies in a panel's record: 32 slots, each with the length of a frame in 16
 // bits and then the frame. An internal crate: its functions ask their callers for slots that hold
 // readable frames, and the calls of a panel, which refuse any other record, give them.
-use frame::frame_check;
 use numbers::number_at;
 use numbers::put_bytes;
 use numbers::put_number;
@@ -13,12 +12,18 @@ ghost use lib.ListN.{length, take, drop};
 ghost use lib.Dec.{eqb};
 ghost use Rattle.numbers.specs.Numbers.{bigEndian};
 ghost use Rattle.numbers.specs.Buffer.{over};
-ghost use Rattle.frame.specs.Reading.{messageIn};
+ghost use Rattle.frame.specs.Reading.{messageIn, refusal};
 ghost use Rattle.rules.specs.Refusals.{eachReadable};
 ghost use Rattle.rules.specs.Refusals.{isWaiting as waits};
-ghost use Rattle.slots.specs.Slots.{Reads, Slots, Fits, Kept, Listed, firstSlots, held};
+ghost use Rattle.slots.specs.Slots.{slotLength, framed, Reads, Slots, Fits, Kept, Listed, firstSlots, held};
 ghost use Rattle.slots.specs.Slots.{frameAt as frameIn};
 ghost use Rattle.slots.specs.Moves.{Alive, Gathered};
+
+// The first eight bytes of a slot as one number: the unit of the length in it; and what is left of it without the length and the low
+// six bits of the source, which are mark and version.
+const LENGTH_UNIT: u64 = 0x1000000000000;
+
+const MARK_AND_VERSION: u64 = 0x4452590001 * 4;
 
 // Slots, so many of them, in order.
 pub struct Places {
@@ -38,17 +43,6 @@ pub fn kept_frame(slots: &[u8], slot: usize) -> &[u8]
     &slots[start..end]
 }
 
-// The frame in a slot; the empty part where its length says more than a slot has room for.
-fn frame_at(slots: &[u8], slot: usize) -> &[u8]
-    requires { ⌜ Slots (now slots) × (slot < 32) ⌝ }
-    ensures { λ r. ⌜ now r ≡ frameIn (now (slots .entry)) slot ⌝ }
-{
-    if 307 < number_at(slots, slot * 309, 2) {
-        return &slots[0..0];
-    }
-    kept_frame(slots, slot)
-}
-
 // The source and the deadline of a readable frame.
 pub fn source(frame: &[u8]) -> u8
     requires { ⌜ Reads (now frame) ⌝ }
@@ -64,6 +58,40 @@ pub fn deadline(frame: &[u8]) -> u32
     number_at(frame, 6, 4) as u32
 }
 
+// Whether a slot, here with those behind it, holds a readable frame. It is what `frame_check` asks, for speed in another form: the first
+// eight bytes are one number, and since a slot has room for 64 entries, the length is compared last.
+fn holds_frame(slot: &[u8]) -> bool
+    requires { ⌜ slotLength ≤ length (now slot) ⌝ }
+    ensures { λ r. ⌜ r ≡ eqb (refusal 4 (framed (now (slot .entry)))) 0 ⌝ }
+{
+    let head = number_at(slot, 0, 8);
+    if head % LENGTH_UNIT / 64 != MARK_AND_VERSION {
+        return false;
+    }
+    let deadline = number_at(slot, 8, 4);
+    if deadline == 0 {
+        return false;
+    }
+    let mut bits = number_at(slot, 12, 8);
+    let mut at = 20;
+    while bits != 0 {
+        let entry = number_at(slot, at, 4);
+        if entry == 0 {
+            return false;
+        }
+        if deadline <= entry {
+            return false;
+        }
+        bits = bits & (bits - 1);
+        at += 4;
+    }
+    let length = number_at(slot, at, 1) as usize;
+    if 32 < length {
+        return false;
+    }
+    (head / LENGTH_UNIT) as usize + 1 == at + length
+}
+
 // Whether each of the first slots holds a readable frame.
 pub fn all_read(slots: &[u8], count: usize) -> bool
     requires { ⌜ Slots (now slots) × (count ≤ 32) ⌝ }
@@ -71,7 +99,8 @@ pub fn all_read(slots: &[u8], count: usize) -> bool
 {
     let mut slot = 0;
     while slot < count {
-        if frame_check(frame_at(slots, slot)) != 0 {
+        let at = slot * 309;
+        if !holds_frame(&slots[at..]) {
             return false;
         }
         slot += 1;

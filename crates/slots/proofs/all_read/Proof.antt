@@ -1,12 +1,18 @@
 -- `slots::all_read` meets its contract: at slot i the answer is that of the slots from i on. Assumes nothing.
 use mathlib.Core.Path.{_≡_, sym, ap, _∙_}
 use mathlib.Core.List.{List}
-use Prim.Native.Nat.{ℕ, _-_}
+use Prim.Native.Nat.{ℕ, _-_, _*_}
+use native.Mathlib.Nat.{le-of-eq}
 use native.Mathlib.Numerals.{add-one}
 use native.Mathlib.Omega.{arith}
+use borrow.Author.Needs.{needs}
+use borrow.Author.Tests.{not-true, not-false, eqb-true, eqb-false}
+use lib.Dec.{eqb}
+use lib.ListN.{length, take, drop, length-drop}
+use lib.Seq.{take-all}
 use Rattle.rules.specs.Refusals.{eachReadable}
 use Rattle.frame.specs.Reading.{refusal}
-use Rattle.slots.specs.Slots.{held, firstSlots}
+use Rattle.slots.specs.Slots.{frameAt, held, firstSlots}
 use Rattle.slots.proofs.Framed.{Bytes-frameAt}
 use Rattle.slots.proofs.Held.{between, between-all}
 use Rattle.slots.proofs.Tests.{eachReadable-next, eachReadable-stop, eachReadable-end}
@@ -22,18 +28,40 @@ abbrev μ-loop : tie.MeasureT-loop
 loop-holds : tie.Need-loop-holds Inv-loop μ-loop
 loop-holds c = ap (λ (places : List ℕ). eachReadable (held (c .before .args .slots .now) places)) (between-all (c .before .args .count))
 
-frame-at-requires : tie.Need-frame-at-requires Inv-loop μ-loop
-frame-at-requires c κs = let s = c .before .before .before in (s .pre .0, omega (arith, s .pre .1))
+-- the part that is lent is the slot, with those behind it
+slot-at : (c : tie.In-loop Inv-loop μ-loop) → let slots = c .before .before .before .args .slots .now in
+    take (length slots - c .before .loop .slot * 309) (drop (c .before .loop .slot * 309) slots) ≡ drop (c .before .loop .slot * 309) slots
+slot-at c =
+    let slots = c .before .before .before .args .slots .now in
+    let at = c .before .loop .slot * 309 in
+    take-all (length slots - at) (drop at slots) (le-of-eq (length-drop at slots))
 
-frame-check-requires : tie.Need-frame-check-requires Inv-loop μ-loop
-frame-check-requires c κs = tt
+mul-at : tie.Need-mul-at Inv-loop μ-loop
+mul-at c = omega (arith, c .before .before .before .pre .1)
+
+sub-holds-frame : tie.Need-sub-holds-frame Inv-loop μ-loop
+sub-holds-frame c = search needs
+
+part-holds-frame-start : tie.Need-part-holds-frame-start Inv-loop μ-loop
+part-holds-frame-start c = omega (arith, c .before .before .before .pre)
+
+part-holds-frame-end : tie.Need-part-holds-frame-end Inv-loop μ-loop
+part-holds-frame-end c = search needs
+
+holds-frame-requires : tie.Need-holds-frame-requires Inv-loop μ-loop
+holds-frame-requires c κs = rw (slot-at (c .before), length-drop) (omega (arith, c .before .before .before .before .pre))
+
+-- the answer is whether the frame in the slot reads
+answered : (c : tie.After-holds-frame Inv-loop μ-loop) → let slots = c .before .before .before .before .before .args .slots .now in
+    eqb (refusal 4 (frameAt slots (c .before .before .before .loop .slot))) 0 ≡ c .holds-frame .result
+unfolding frameAt
+answered c = sym (rw (slot-at (c .before .before)) at (c .holds-frame .ensures))
 
 returns : tie.Need-returns Inv-loop μ-loop
 returns c =
     let l = c .before .before .before .before .loop in
-    let found = c .before .before .frame-at .ensures in
-    let checked = c .before .frame-check .ensures in
-    sym (sym (l .inv) ∙ eachReadable-stop _ _ _ (omega arith) (λ reads. c .if1 .taken (checked ∙ ap (refusal 4) found ∙ reads)))
+    let unread = answered (c .before) ∙ not-true _ (c .if1 .taken) in
+    sym (sym (l .inv) ∙ eachReadable-stop _ _ _ (omega arith) (λ reads. eqb-false _ _ unread reads))
 
 add-slot : tie.Need-add-slot Inv-loop μ-loop
 add-slot c = omega (arith, c .before .before .before .before .before .before .pre .1)
@@ -46,7 +74,7 @@ loop-again c =
     let l = c .before .before .before .before .loop in
     let slots = c .before .before .before .before .before .before .args .slots .now in
     let known = c .before .before .before .before .before .shared-slice-known .given in
-    let reads = sym (c .before .frame-check .ensures ∙ ap (refusal 4) (c .before .before .frame-at .ensures)) ∙ c .if1 .left in
+    let reads = eqb-true _ _ (answered (c .before) ∙ not-false _ (c .if1 .left)) in
     rw (add-one (l .slot)) (sym (eachReadable-next slots (l .slot) _ (omega arith) (Bytes-frameAt slots (l .slot) (λ i. omega (arith, known i))) reads) ∙ l .inv)
 
 returns-2 : tie.Need-returns-2 Inv-loop μ-loop
@@ -61,8 +89,11 @@ all-read-spec =
     Inv-loop
     μ-loop
     loop-holds
-    frame-at-requires
-    frame-check-requires
+    mul-at
+    sub-holds-frame
+    part-holds-frame-start
+    part-holds-frame-end
+    holds-frame-requires
     returns
     add-slot
     loop-less

@@ -72,14 +72,14 @@ fn put_head(buffer: &mut [u8], source: u8, deadline: u32, mask: u64)
     put_number(buffer, 10, 8, mask);
 }
 
-// Puts the entries of the panels that have one, lowest panel first.
-fn put_entries(buffer: &mut [u8], entries: &[u32])
-    requires { ⌜ 18 + 4 * length (present (now entries)) ≤ length (now buffer) ⌝ }
+// Puts the entries of the panels that have one, lowest panel first, up to the place where they end: most panels have none.
+fn put_entries(buffer: &mut [u8], entries: &[u32], end: usize)
+    requires { ⌜ (end ≡ 18 + 4 * length (present (now entries))) × (end ≤ length (now buffer)) ⌝ }
     ensures { λ _. ⌜ now (buffer .exit) ≡ over (now (buffer .entry)) 18 (bigEndians 4 (present (now (entries .entry)))) ⌝ }
 {
     let mut at = 18;
     let mut panel = 0;
-    while panel < entries.len() {
+    while at < end {
         let entry = entries[panel];
         if entry != 0 {
             put_number(buffer, at, 4, entry as u64);
@@ -122,7 +122,7 @@ pub fn write(
         return 0;
     }
     put_head(buffer, source, deadline, mask);
-    put_entries(buffer, &entries);
+    put_entries(buffer, &entries, at);
     put_payload(buffer, at, payload);
     length
 }

@@ -106,7 +106,7 @@ fits2 c = c .before .before .before .before
 put-entries-requires : tie.Need-put-entries-requires
 put-entries-requires c κs =
     let past = fits2 (c .before .before) in
-    omega (arith, room past, sized (past .before), counted (past .before))
+    (omega (arith, counted (past .before)), omega (arith, room past, sized (past .before)))
 
 abbrev fits3 : tie.After-slice-known3 → tie.Else2
 fits3 c = fits2 (c .before .before .before .before .before)

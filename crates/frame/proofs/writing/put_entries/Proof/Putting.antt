@@ -2,7 +2,7 @@
 use mathlib.Core.Path.{_≡_, refl, sym, ap, _∙_}
 use mathlib.Core.List.{List, [], _∷_}
 use Prim.Native.Nat.{ℕ, suc, _+_, _*_, _≤_, _<_}
-use native.Mathlib.Nat.{mul-zero, mul-suc, mul-le-mul-left}
+use native.Mathlib.Nat.{mul-zero, mul-suc, mul-le-mul-left, lt-of-not-le}
 use native.Mathlib.Numerals.{add-one}
 use native.Mathlib.Omega.{arith}
 use lib.ListN.{length, getD, take, length-append}
@@ -12,7 +12,7 @@ use Rattle.numbers.specs.Buffer.{over}
 use Rattle.numbers.proofs.BigEndian.{length-bigEndian, length-bigEndians, bigEndians-snoc}
 use Rattle.numbers.proofs.Over.{over-nil, over-over, length-over}
 use Rattle.frame.specs.Message.{present}
-use Rattle.frame.proofs.Entries.{present-take-none, present-take-entry, present-take-le}
+use Rattle.frame.proofs.Entries.{present-take-none, present-take-entry, present-take-le, present-take-all}
 
 -- the entries of the panels below s are in buffer, which was buffer₀, from place start on, and at is the place behind them
 pub record Put (width : ℕ) (buffer₀ : List ℕ) (start : ℕ) (es buffer : List ℕ) (at s : ℕ) : Type 0 where
@@ -26,10 +26,14 @@ module _ (width : ℕ) (buffer₀ : List ℕ) (start : ℕ) (es : List ℕ) wher
   unfolding present bigEndians
   put-none = record { below = omega arith; place = rw mul-zero (omega arith); bytes = sym (over-nil buffer₀ start); same = refl }
 
-  pub put-all : (buffer : List ℕ) (at s : ℕ) → Put width buffer₀ start es buffer at s → length es ≤ s
-      → buffer ≡ over buffer₀ start (bigEndians width (present es))
-  put-all buffer at s p h =
-      p .bytes ∙ ap (λ (l : List ℕ). over buffer₀ start (bigEndians width (present l))) (take-all s es h)
+module _ (buffer₀ : List ℕ) (start : ℕ) (es buffer : List ℕ) (at s : ℕ) (p : Put 4 buffer₀ start es buffer at s) where
+  pub put-all : start + 4 * length (present es) ≤ at → buffer ≡ over buffer₀ start (bigEndians 4 (present es))
+  put-all h =
+      p .bytes ∙ ap (λ (l : List ℕ). over buffer₀ start (bigEndians 4 l)) (present-take-all es s (omega (arith, p .place)))
+
+  -- where not all are put, a panel is left
+  pub put-more : at < start + 4 * length (present es) → s < length es
+  put-more h = lt-of-not-le (λ (all : length es ≤ s). omega (arith, p .place, ap (λ (l : List ℕ). length (present l)) (take-all s es all)))
 
 module _ (width : ℕ) (buffer₀ : List ℕ) (start : ℕ) (es buffer : List ℕ) (at s : ℕ)
     (p : Put width buffer₀ start es buffer at s) (room : start + width * length (present es) ≤ length buffer₀) (more : s < length es) where

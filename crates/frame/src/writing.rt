@@ -105,24 +105,24 @@ fn put_payload(buffer: &mut [u8], at: usize, payload: &[u8])
 pub fn write(
     source: u8,
     deadline: u32,
-    entries: [u32; 64],
+    entries: &[u32; 64],
     payload: &[u8],
     buffer: &mut [u8],
 ) -> usize
-    ensures { λ r. ⌜ (r ≡ writtenLength 4 (messageOf source deadline entries (now (payload .entry))) (now (buffer .entry)))
-        × (now (buffer .exit) ≡ written 4 (messageOf source deadline entries (now (payload .entry))) (now (buffer .entry))) ⌝ }
+    ensures { λ r. ⌜ (r ≡ writtenLength 4 (messageOf source deadline (now (entries .entry)) (now (payload .entry))) (now (buffer .entry)))
+        × (now (buffer .exit) ≡ written 4 (messageOf source deadline (now (entries .entry)) (now (payload .entry))) (now (buffer .entry))) ⌝ }
 {
-    if !readable(source, deadline, &entries, payload) {
+    if !readable(source, deadline, entries, payload) {
         return 0;
     }
-    let mask = mask_of(&entries);
+    let mask = mask_of(entries);
     let at = 18 + 4 * (u64::count_ones(mask) as usize);
     let length = at + 1 + payload.len();
     if buffer.len() < length {
         return 0;
     }
     put_head(buffer, source, deadline, mask);
-    put_entries(buffer, &entries, at);
+    put_entries(buffer, entries, at);
     put_payload(buffer, at, payload);
     length
 }

@@ -72,7 +72,7 @@ fn print_reading(frame: &[u8]) {
 fn write(source: u8, deadline: u32, entry: u32, payload: &[u8], buffer: &mut [u8]) -> usize {
     let mut entries = [0u32; 64];
     entries[3] = entry;
-    frame::write(source, deadline, entries, payload, buffer)
+    frame::write(source, deadline, &entries, payload, buffer)
 }
 
 // A line of the length that a write answers, and of the first byte of the buffer, which was 07.

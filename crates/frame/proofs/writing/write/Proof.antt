@@ -22,7 +22,7 @@ use Rattle.frame.proofs.writing.write.Statement.{statement}
 use Rattle.frame.proofs.writing.write.Tie as tie
 
 abbrev message : tie.Start → Message
-message c = messageOf (c .args .source) (c .args .deadline) (c .args .t3) (now (c .args .payload))
+message c = messageOf (c .args .source) (c .args .deadline) (now (c .args .entries)) (now (c .args .payload))
 
 -- ---- the message has a frame
 
@@ -32,20 +32,17 @@ start c = c .before .before .before .before .before .before .before
 has-frame : (c : tie.After-mask-of) → readable 4 (message (start c)) ≡ true
 has-frame c = let past = c .before .before in sym (past .before .readable .ensures) ∙ not-false _ (past .if1 .left)
 
-panels : (c : tie.After-mask-of) → length (start c .args .t3) ≡ 64
+panels : (c : tie.After-mask-of) → length (now (start c .args .entries)) ≡ 64
 panels c = search needs
 
 few : (c : tie.After-mask-of) → ones (c .mask-of .result) ≤ 64
-few c = ones-le 64 (c .mask-of .result) (omega (arith, c .mask-of .ensures, maskOf-fits (start c .args .t3) (panels c)))
+few c = ones-le 64 (c .mask-of .result) (omega (arith, c .mask-of .ensures, maskOf-fits (now (start c .args .entries)) (panels c)))
 
-counted : (c : tie.After-mask-of) → ones (c .mask-of .result) ≡ length (present (start c .args .t3))
-counted c = ap ones (c .mask-of .ensures) ∙ ones-maskOf (start c .args .t3) (panels c)
+counted : (c : tie.After-mask-of) → ones (c .mask-of .result) ≡ length (present (now (start c .args .entries)))
+counted c = ap ones (c .mask-of .ensures) ∙ ones-maskOf (now (start c .args .entries)) (panels c)
 
 sized : (c : tie.After-mask-of) → 18 + 4 * ones (c .mask-of .result) + 1 + length (now (start c .args .payload)) ≡ length (frame 4 (message (start c)))
 sized c = omega (arith, counted c, length-frame 4 (message (start c)))
-
-slice-aggregate-readable : tie.Need-slice-aggregate-readable
-slice-aggregate-readable c = search needs
 
 readable-requires : tie.Need-readable-requires
 readable-requires c κs = search needs
@@ -54,9 +51,6 @@ returns : tie.Need-returns
 returns c =
     let s = c .before .before .before .before .before in
     written-unreadable 4 (message s) (now (s .args .buffer)) (sym (c .before .readable .ensures) ∙ not-true _ (c .if1 .taken))
-
-slice-aggregate-mask-of : tie.Need-slice-aggregate-mask-of
-slice-aggregate-mask-of c = search needs
 
 mask-of-requires : tie.Need-mask-of-requires
 mask-of-requires c κs = search needs
@@ -96,9 +90,6 @@ headed c =
     c .put-head .ensures
     ∙ ap (λ (mask : ℕ). over (now (s .args .buffer)) 0 (headOf 4 (s .args .source) (s .args .deadline) mask))
     (c .before .before .before .mask-of .ensures)
-
-slice-aggregate-put-entries : tie.Need-slice-aggregate-put-entries
-slice-aggregate-put-entries c = search needs
 
 abbrev fits2 : tie.After-slice-known2 → tie.Else2
 fits2 c = c .before .before .before .before
@@ -143,10 +134,8 @@ pub write-spec : {M : Type 1} → statement M
 write-spec =
     tie.close
     (tie.spec
-    slice-aggregate-readable
     readable-requires
     returns
-    slice-aggregate-mask-of
     mask-of-requires
     cast-at
     mul-at
@@ -155,7 +144,6 @@ write-spec =
     add-length-2
     returns-2
     put-head-requires
-    slice-aggregate-put-entries
     put-entries-requires
     put-payload-requires
     same-length

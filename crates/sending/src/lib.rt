@@ -82,9 +82,8 @@ pub fn send_in_place(
             number,
         };
     }
-    let entries = *barrier;
+    let length = write(own, deadline as u32, barrier, payload, buffer);
     *barrier = [0u32; 64];
-    let length = write(own, deadline as u32, entries, payload, buffer);
     let frame = &buffer[0..length];
     *high = hand(*high, 0, marks, barrier, frame, output);
     let places = in_order();

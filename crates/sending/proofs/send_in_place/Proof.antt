@@ -89,7 +89,7 @@ abbrev new-frame : tie.Else1 → List ℕ
 new-frame c = let a = back c .args in frame 4 (newMessage (given (back c)) (a .payload .now) (a .lifetime))
 
 abbrev past : tie.After-write → tie.Else1
-past c = c .before .before .before .before
+past c = c .before .before .before
 
 wrote : (c : tie.After-write) → (c .write .result ≡ length (new-frame (past c)))
     × (c .write .last .1 .1 .1 .1 .0 ≡ over (back (past c) .args .buffer .now) 0 (new-frame (past c)))
@@ -120,7 +120,7 @@ returns : tie.Need-returns
 returns c = refused-in-place (lent (start (c .before .before))) (send _ _ _ _) _ (numbered (c .before)) (c .if1 .taken)
 
 cast-write : tie.Need-cast-write
-cast-write c = omega (arith, due (c .before .before .before .before), checked (passed (c .before .before)) .deadline)
+cast-write c = omega (arith, due (c .before .before), checked (passed c) .deadline)
 
 write-requires : tie.Need-write-requires
 write-requires c κs = search needs
@@ -133,12 +133,12 @@ part-frame-start c = search needs
 
 part-frame-end : tie.Need-part-frame-end
 part-frame-end c =
-    let write = c .before .before .before in
+    let write = c .before .before .before .before in
     omega (arith, wrote write .0, frame-fits (passed (past write)), write .write .kept .1 .1 .1 .1 .0)
 
 hand-requires : tie.Need-hand-requires
 hand-requires c κs =
-    let write = c .before .before .before .before .before .before .before in
+    let write = c .before .before .before .before .before .before .before .before in
     (rw (part write) (frame-reads (passed (past write))), omega (arith, checked (passed (past write)) .output-room))
 
 in-order-requires : tie.Need-in-order-requires
@@ -148,7 +148,7 @@ settle-slots-requires : tie.Need-settle-slots-requires
 settle-slots-requires c κs =
     let order = c .before .before .before .before .before .before in
     let hand = order .before .before .before in
-    let write = hand .before .before .before .before .before .before .before .before in
+    let write = hand .before .before .before .before .before .before .before .before .before in
     let P = checked (passed (past write)) in
     let whole = valid-kept (lent (back (past write))) (P .valid) in (
       (all-slots (past write .before .before), rw (order .in-order .ensures) (listed-order _ _ whole)),
@@ -167,7 +167,7 @@ returns-2 c =
     let settled = c .before .before in
     let order = settled .before .before .before .before .before .before .before in
     let hand = order .before .before .before in
-    let write = hand .before .before .before .before .before .before .before .before in
+    let write = hand .before .before .before .before .before .before .before .before .before in
     let P = passed (past write) in
     let handed = hand .hand in
     let s = settled .settle-slots in

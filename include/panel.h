@@ -1,66 +1,92 @@
 /*
- * The causal message module of the dryer panel, for C11 and C++11; document 01 specifies it.
+ * The causal message module of the dryer panel, for C11 and C++11. Document 01 specifies it.
  *
  * Each panel of a farm keeps a record. panel_fresh makes it; panel_send writes the frame of an own
  * message, panel_receive takes a frame that came in, panel_clock sets the time. Each of these three
  * hands messages: it writes their log records, in the order of cause. A message that comes before
- * its cause waits in the record. frame_check looks at the bytes of a frame alone.
+ * its cause waits in the record. panel_log_record reads a log, panel_bundle_next a bundle of
+ * frames, and panel_frame_check looks at the bytes of a frame alone.
  *
- * Link with libpanel.a, and for frame_check with libframe.a. `rt staticlib panel` and `rt staticlib
- * frame` write them to target/staticlib/. They need memcpy and memset, and nothing else.
+ * Example, a whole program (cc program.c -lpanel). It prints "3 1200 OK" and "21 bytes to pass on".
  *
- *     static Panel panel;                         // the record, kept from call to call
- *     static uint8_t output[PANEL_OUTPUT_MIN];    // the log records of one call
- *     static uint8_t frame[PANEL_FRAME_MAX];      // the frame of a send
+ *     #include <panel.h>
+ *     #include <stdio.h>
  *
- *     PanelFresh fresh = panel_fresh(3);
- *     if (fresh.number != PANEL_ACCEPTED)
- *         ...                                     // 11: no such panel
- *     panel = fresh.panel;
+ *     static Panel panel;                        // the record, kept from call to call
+ *     static uint8_t output[PANEL_OUTPUT_MIN];   // the log records of one call
+ *     static uint8_t frame[PANEL_FRAME_MAX];     // the frame of a send
  *
- *     PanelSent sent = panel_send(panel, (const uint8_t *)"OK", 2, 0, output, sizeof output,
- *                                 frame, sizeof frame);
- *     panel = sent.panel;                         // after a refusal it is as it was
- *     for (size_t i = 0; i < sent.count; i++)     // after a refusal there is none
- *         show(output + i * PANEL_LOG_RECORD);
- *     if (sent.number == PANEL_ACCEPTED)
- *         pass_on(frame, sent.length);
+ *     int main(void)
+ *     {
+ *         PanelNumber number = panel_fresh(&panel, 3);
+ *         if (number != PANEL_ACCEPTED)
+ *             return 1;
+ *         PanelAnswer sent = panel_send(&panel, (const uint8_t *)"OK", 2, 0, output, sizeof output,
+ *                                       frame, sizeof frame);
+ *         if (sent.number != PANEL_ACCEPTED) {
+ *             puts(panel_number_text(sent.number));
+ *             return 1;
+ *         }
+ *         for (size_t i = 0; i < sent.count; i++) {
+ *             PanelLogRecord record = panel_log_record(output, sizeof output, i);
+ *             printf("%u %u %.*s\n", record.source, record.deadline, record.length,
+ *                    (const char *)record.payload);
+ *         }
+ *         printf("%zu bytes to pass on\n", sent.length);
+ *         return 0;
+ *     }
  *
- * examples/farm.c is a whole program; examples/rust/panel.rs has the calls for Rust.
- *
- * What a caller keeps to; for the rest any argument is allowed, and what is wrong with it is
- * answered with a number:
- * - A pointer is not null, also with length 0 (for no bytes point to any byte), and as many bytes
- *   as the length says may be read there, or written where the pointer is not const.
- * - The buffers of one call overlap neither each other nor the record or the answer.
+ * What a caller keeps to. For the rest any argument is allowed, and what is wrong with it is
+ * answered with a number.
+ * - No pointer is null, also with length 0 (for no bytes point to any byte).
+ * - Lengths are true: so many bytes may be read there, or written where the pointer is not const.
+ * - The buffers of one call overlap neither each other nor the record.
  * - While a call runs, nobody else writes its record or uses its buffers.
- * - Record and answer are passed by value, about 10 KB each: a call needs up to 41 KB of stack.
+ * - PANEL_STACK_BYTES of stack are free.
  *
  * No call allocates, blocks, keeps a pointer or has state of its own: calls on different records
- * may run at the same time. Calls on one record go one after another.
+ * may run at the same time. Calls on one record go one after another. The archive needs memcpy and
+ * memset, and nothing else.
  *
- * Storing a record: it is plain data without pointers. It may be copied, or saved as its
- * sizeof(Panel) bytes and read back on the same kind of machine. Go on with the record that the
- * last call gave back, never with an older one, which would hand messages again and give out a
+ * Storing a record. It is plain data without pointers. It may be copied, or saved as its
+ * sizeof(Panel) bytes and read back by the same version of this header. Go on with the record as
+ * the last call left it, never with an older copy, which would hand messages again and give out a
  * deadline twice: so save it, and the log records, before the frame is passed on. A record that is
  * broken, as the words of 26 say, is refused with that number by each of the three calls. Other
  * damage, as in the time, they can't see: keep a checksum beside the record.
+ *
+ * Processor. The archive is for x86-64 with the System V calling convention, as on 64-bit Linux,
+ * and for no other: the compiler that comes with the proofs makes code for that one only. The
+ * layouts and the passing of arguments below are those of that target, and asserted.
  */
 #ifndef PANEL_H
 #define PANEL_H
 
 #if !defined(__x86_64__) || !defined(__LP64__) || !defined(__ELF__)
-#error "libpanel.a and libframe.a are for x86-64 System V (64-bit Linux), and for no other target"
+#error "libpanel.a is for x86-64 System V (64-bit Linux), and for no other target"
 #endif
 
 #include <stddef.h>
 #include <stdint.h>
+#include <string.h>
 
 #ifdef __cplusplus
 extern "C" {
 #endif
 
+/* ---- Version ---- */
+
+/* Major 0, as the layout of the record still changes with coming versions: a record that another
+   version saved is not to be read. Frames, bundles and logs stay as document 01 has them. */
+#define PANEL_VERSION_MAJOR 0
+#define PANEL_VERSION_MINOR 2
+#define PANEL_VERSION_PATCH 0
+#define PANEL_VERSION "0.2.0"
+
 /* ---- Sizes ---- */
+
+/* The stack that a call needs, at most. */
+#define PANEL_STACK_BYTES 8192
 
 enum {
     PANEL_PANELS = 64,             /* panels of a farm, numbered from 0 */
@@ -83,11 +109,11 @@ enum {
     PANEL_LOG_PAYLOAD_AT = 6   /* 32 bytes, zeros after the payload's end */
 };
 
-/* ---- Numbers of an answer ---- */
+/* ---- Numbers ---- */
 
-/* A refusal changes nothing: the record comes back as it was given, no byte of a buffer is
-   altered, and count and length are 0. */
-enum {
+/* What a call answers. A refusal changes nothing: every byte of the record and of the buffers is as
+   it was, and count and length are 0. (Fresh alone makes a record with its refusal.) */
+typedef enum PanelNumber {
     PANEL_ACCEPTED = 0,
 
     /* because of the input */
@@ -106,110 +132,17 @@ enum {
     PANEL_REFUSED_PANEL_NUMBER = 11,        /* a panel number above 63 asked of a fresh panel */
 
     /* because of the state */
-    PANEL_REFUSED_OWN_SOURCE = 20,          /* the frame's source is the own number */
-    PANEL_REFUSED_LAPSED = 21,              /* the message has lapsed */
-    PANEL_REFUSED_HAD_ALREADY = 22,         /* its deadline is at most its source's mark, or it is
-                                               waiting already */
-    PANEL_REFUSED_LIST_FULL = 23,           /* 32 are waiting and this one is not ready */
-    PANEL_REFUSED_DEADLINE_TOO_HIGH = 24,   /* the deadline of a send would pass 4,294,967,295 */
-    PANEL_REFUSED_CLOCK_BACK = 25,          /* the clock reading is below the panel's time */
-    PANEL_REFUSED_RECORD_BROKEN = 26        /* the record has an own number above 63, a mark or
-                                               barrier entry above high, over 32 waiting, or a
-                                               waiting message that no readable frame carries */
-};
-
-/* ---- The record and the answers ---- */
-
-/* The record: any field may be read; only the calls change it. Times and deadlines are whole
-   seconds. */
-typedef struct {
-    uint8_t own;                      /* own number */
-    uint32_t time;                    /* the last clock reading that was accepted, at first 0 */
-    uint32_t high;                    /* the largest deadline in the log, or 0 */
-    size_t count;                     /* how many messages are waiting */
-    uint32_t marks[PANEL_PANELS];     /* the largest deadline in the log from each source, or 0 */
-    uint32_t barrier[PANEL_PANELS];   /* the entries that the next frame carries, or 0 */
-    uint8_t slots[PANEL_SLOTS_BYTES]; /* the frames of the waiting messages, in the order taken;
-                                         what stands behind them is no part of the record */
-} Panel;
-
-/* The answers: panel is the record to go on with, number is 0 or that of a refusal, count is that
-   of the log records in the output, length that of the frame in its buffer. */
-typedef struct {
-    Panel panel;
-    uint8_t number;
-} PanelFresh;
-
-typedef struct {
-    Panel panel;
-    size_t count;
-    size_t length;
-    uint8_t number;
-} PanelSent;
-
-typedef struct {
-    Panel panel;
-    size_t count;
-    uint8_t number;
-} PanelReceived;
-
-typedef struct {
-    Panel panel;
-    size_t count;
-    uint8_t number;
-} PanelClocked;
-
-/* ---- The layout in the archives ---- */
-
-#ifdef __cplusplus
-#define PANEL_ASSERT(claim, words) static_assert(claim, words)
-#define PANEL_SIZE_OF(type, field) sizeof(type::field)
-#else
-#define PANEL_ASSERT(claim, words) _Static_assert(claim, words)
-#define PANEL_SIZE_OF(type, field) sizeof(((type *)0)->field)
-#endif
-
-#define PANEL_FIELD(type, field, place, size)                                    \
-    PANEL_ASSERT(offsetof(type, field) == place, "place of " #type "." #field);  \
-    PANEL_ASSERT(PANEL_SIZE_OF(type, field) == size, "size of " #type "." #field)
-
-PANEL_FIELD(Panel, own, 0, 1);
-PANEL_FIELD(Panel, time, 4, 4);
-PANEL_FIELD(Panel, high, 8, 4);
-PANEL_FIELD(Panel, count, 16, 8);
-PANEL_FIELD(Panel, marks, 24, 256);
-PANEL_FIELD(Panel, barrier, 280, 256);
-PANEL_FIELD(Panel, slots, 536, 9888);
-PANEL_ASSERT(sizeof(Panel) == 10424, "size of Panel");
-
-PANEL_FIELD(PanelFresh, panel, 0, 10424);
-PANEL_FIELD(PanelFresh, number, 10424, 1);
-PANEL_ASSERT(sizeof(PanelFresh) == 10432, "size of PanelFresh");
-
-PANEL_FIELD(PanelSent, panel, 0, 10424);
-PANEL_FIELD(PanelSent, count, 10424, 8);
-PANEL_FIELD(PanelSent, length, 10432, 8);
-PANEL_FIELD(PanelSent, number, 10440, 1);
-PANEL_ASSERT(sizeof(PanelSent) == 10448, "size of PanelSent");
-
-PANEL_FIELD(PanelReceived, panel, 0, 10424);
-PANEL_FIELD(PanelReceived, count, 10424, 8);
-PANEL_FIELD(PanelReceived, number, 10432, 1);
-PANEL_ASSERT(sizeof(PanelReceived) == 10440, "size of PanelReceived");
-
-PANEL_FIELD(PanelClocked, panel, 0, 10424);
-PANEL_FIELD(PanelClocked, count, 10424, 8);
-PANEL_FIELD(PanelClocked, number, 10432, 1);
-PANEL_ASSERT(sizeof(PanelClocked) == 10440, "size of PanelClocked");
-
-PANEL_ASSERT((PANEL_WAITING_MAX + 1) * PANEL_LOG_RECORD == PANEL_OUTPUT_MIN, "output");
-PANEL_ASSERT(PANEL_WAITING_MAX * PANEL_SLOT_BYTES == PANEL_SLOTS_BYTES, "slots");
-
-#undef PANEL_FIELD
-#undef PANEL_SIZE_OF
-#undef PANEL_ASSERT
-
-/* ---- The calls ---- */
+    PANEL_REFUSED_OWN_SOURCE = 20,        /* the frame's source is the own number */
+    PANEL_REFUSED_LAPSED = 21,            /* the message has lapsed */
+    PANEL_REFUSED_HAD_ALREADY = 22,       /* its deadline is at most its source's mark, or it is
+                                             waiting already */
+    PANEL_REFUSED_LIST_FULL = 23,         /* 32 are waiting and this one is not ready */
+    PANEL_REFUSED_DEADLINE_TOO_HIGH = 24, /* the deadline of a send would pass 4,294,967,295 */
+    PANEL_REFUSED_CLOCK_BACK = 25,        /* the clock reading is below the panel's time */
+    PANEL_REFUSED_RECORD_BROKEN = 26      /* the record has an own number above 63, a mark or
+                                             barrier entry above high, over 32 waiting, or a
+                                             waiting message that no readable frame carries */
+} PanelNumber;
 
 /* Lets the compiler warn of an answer that is not looked at, and of a pointer that is null. */
 #ifdef __GNUC__
@@ -220,75 +153,39 @@ PANEL_ASSERT(PANEL_WAITING_MAX * PANEL_SLOT_BYTES == PANEL_SLOTS_BYTES, "slots")
 #define PANEL_NOT_NULL
 #endif
 
+/* The words of a number, as they stand beside it above, for a screen or a trace. */
+PANEL_ANSWER
+static inline const char *panel_number_text(PanelNumber number);
+
+/* ---- The record ---- */
+
+/* Any field may be read; only the calls change it. Times and deadlines are whole seconds. */
+typedef struct Panel {
+    uint8_t own;                      /* own number */
+    uint32_t time;                    /* the last clock reading that was accepted, at first 0 */
+    uint32_t high;                    /* the largest deadline in the log, or 0 */
+    size_t count;                     /* how many messages are waiting */
+    uint32_t marks[PANEL_PANELS];     /* the largest deadline in the log from each source, or 0 */
+    uint32_t barrier[PANEL_PANELS];   /* the entries that the next frame carries, or 0 */
+    uint8_t slots[PANEL_SLOTS_BYTES]; /* the frames of the waiting messages, in the order taken;
+                                         what stands behind them is no part of the record */
+} Panel;
+
 /*
- * A fresh panel: time 0, high 0, all marks and barrier entries 0, nothing waiting.
+ * Makes a fresh panel: time 0, high 0, all marks and barrier entries 0, nothing waiting. It sets
+ * every byte of the record, those between the fields too, whatever was there.
  * Refused with 11; the record is then a fresh panel 0.
  */
 PANEL_ANSWER PANEL_NOT_NULL
-uint8_t panel_fresh_lent(uint8_t number, uint8_t *own, uint32_t *time, uint32_t *high,
-                         size_t *count, uint32_t *marks, uint32_t *barrier);
+static inline PanelNumber panel_fresh(Panel *panel, uint8_t number);
 
-PANEL_ANSWER PANEL_NOT_NULL
-static inline uint8_t panel_fresh_in(Panel *p, uint8_t number)
-{
-    return panel_fresh_lent(number, &p->own, &p->time, &p->high, &p->count, p->marks, p->barrier);
-}
+/* ---- Send, receive and clock ---- */
 
-PANEL_ANSWER
-static inline PanelFresh panel_fresh(uint8_t own)
-{
-    PanelFresh fresh = {{0, 0, 0, 0, {0}, {0}, {0}}, 0};
-    fresh.number = panel_fresh_in(&fresh.panel, own);
-    return fresh;
-}
-
-/* ---- The calls in place: they change the record behind the pointer, and on a refusal nothing.
-   The archive has the functions on its parts. ---- */
-
-typedef struct {
-    size_t count;
-    size_t length;
-    uint8_t number;
+typedef struct PanelAnswer {
+    size_t count;       /* how many log records stand in the output */
+    size_t length;      /* how many bytes of a frame stand in the frame buffer, 0 but for a send */
+    PanelNumber number; /* 0, or that of the refusal */
 } PanelAnswer;
-
-PanelAnswer panel_send_lent(
-    uint8_t own, uint32_t *time, uint32_t *high, size_t *count,
-    uint32_t *marks, uint32_t *barrier, uint8_t *slots,
-    const uint8_t *payload, size_t payload_length, uint16_t lifetime,
-    uint8_t *output, size_t output_length, uint8_t *frame, size_t frame_length);
-PanelAnswer panel_receive_lent(
-    uint8_t own, uint32_t *time, uint32_t *high, size_t *count,
-    uint32_t *marks, uint32_t *barrier, uint8_t *slots,
-    const uint8_t *frame, size_t frame_length, uint8_t *output, size_t output_length);
-PanelAnswer panel_clock_lent(
-    uint8_t own, uint32_t *time, uint32_t *high, size_t *count,
-    uint32_t *marks, uint32_t *barrier, uint8_t *slots,
-    uint32_t reading, uint8_t *output, size_t output_length);
-
-static inline PanelAnswer panel_send_in(Panel *p, const uint8_t *payload, size_t payload_length,
-                                        uint16_t lifetime, uint8_t *output, size_t output_length,
-                                        uint8_t *frame, size_t frame_length)
-{
-    return panel_send_lent(p->own, &p->time, &p->high, &p->count, p->marks, p->barrier, p->slots,
-                           payload, payload_length, lifetime, output, output_length, frame,
-                           frame_length);
-}
-
-static inline PanelAnswer panel_receive_in(Panel *p, const uint8_t *frame, size_t frame_length,
-                                           uint8_t *output, size_t output_length)
-{
-    return panel_receive_lent(p->own, &p->time, &p->high, &p->count, p->marks, p->barrier, p->slots,
-                              frame, frame_length, output, output_length);
-}
-
-static inline PanelAnswer panel_clock_in(Panel *p, uint32_t time, uint8_t *output,
-                                         size_t output_length)
-{
-    return panel_clock_lent(p->own, &p->time, &p->high, &p->count, p->marks, p->barrier, p->slots,
-                            time, output, output_length);
-}
-
-/* ---- The calls by value, over those in place ---- */
 
 /*
  * Sends a payload of 0 to 32 bytes. The deadline of the message is the larger of time + lifetime
@@ -300,38 +197,20 @@ static inline PanelAnswer panel_clock_in(Panel *p, uint32_t time, uint8_t *outpu
  * Refused with the first of 26, 10, 9, 24 that applies.
  */
 PANEL_ANSWER PANEL_NOT_NULL
-static inline PanelSent panel_send(Panel panel, const uint8_t *payload, size_t payload_length,
-                                   uint16_t lifetime, uint8_t *output, size_t output_length,
-                                   uint8_t *frame, size_t frame_length)
-{
-    PanelSent sent;
-    PanelAnswer a = panel_send_in(&panel, payload, payload_length, lifetime, output, output_length,
-                                  frame, frame_length);
-    sent.panel = panel;
-    sent.count = a.count;
-    sent.length = a.length;
-    sent.number = a.number;
-    return sent;
-}
+static inline PanelAnswer panel_send(Panel *panel, const uint8_t *payload, size_t payload_length,
+                                     uint16_t lifetime, uint8_t *output, size_t output_length,
+                                     uint8_t *frame, size_t frame_length);
 
 /*
  * Receives a frame, whole or damaged, of any length. Its message is handed if it is ready, that is
  * if for each entry the panel has had that message or the entry has lapsed; otherwise it waits.
  * Then the panel settles: `count` log records, 0 to 33, stand one after another from the start of
  * the output, and the bytes behind them keep their content.
- * Refused with the first of 26, 10, 1 to 8 as by frame_check, 20, 21, 22, 23 that applies.
+ * Refused with the first of 26, 10, 1 to 8 as by panel_frame_check, 20, 21, 22, 23 that applies.
  */
 PANEL_ANSWER PANEL_NOT_NULL
-static inline PanelReceived panel_receive(Panel panel, const uint8_t *frame, size_t frame_length,
-                                          uint8_t *output, size_t output_length)
-{
-    PanelReceived received;
-    PanelAnswer a = panel_receive_in(&panel, frame, frame_length, output, output_length);
-    received.panel = panel;
-    received.count = a.count;
-    received.number = a.number;
-    return received;
-}
+static inline PanelAnswer panel_receive(Panel *panel, const uint8_t *frame, size_t frame_length,
+                                        uint8_t *output, size_t output_length);
 
 /*
  * Sets the time. Waiting messages whose deadline is below it have lapsed: they are dropped, and
@@ -341,16 +220,10 @@ static inline PanelReceived panel_receive(Panel panel, const uint8_t *frame, siz
  * Refused with the first of 26, 10, 25 that applies. The same time again is accepted.
  */
 PANEL_ANSWER PANEL_NOT_NULL
-static inline PanelClocked panel_clock(Panel panel, uint32_t time, uint8_t *output,
-                                       size_t output_length)
-{
-    PanelClocked clocked;
-    PanelAnswer a = panel_clock_in(&panel, time, output, output_length);
-    clocked.panel = panel;
-    clocked.count = a.count;
-    clocked.number = a.number;
-    return clocked;
-}
+static inline PanelAnswer panel_clock(Panel *panel, uint32_t time, uint8_t *output,
+                                      size_t output_length);
+
+/* ---- Frames, logs and bundles ---- */
 
 /*
  * 0 for the bytes of a frame, or the number of the first check that applies: fewer than 19 bytes
@@ -359,10 +232,259 @@ static inline PanelClocked panel_clock(Panel panel, uint32_t time, uint8_t *outp
  * over (8).
  */
 PANEL_ANSWER PANEL_NOT_NULL
+static inline PanelNumber panel_frame_check(const uint8_t *frame, size_t frame_length);
+
+typedef struct PanelLogRecord {
+    const uint8_t *payload; /* in the log */
+    uint32_t deadline;      /* 0: there is no such record */
+    uint8_t source;
+    uint8_t length;         /* bytes of the payload, 0 to 32 */
+} PanelLogRecord;
+
+/*
+ * Reads the log record of that index, from 0, in a log: the output of a call, or the records of
+ * several calls one after another. Deadline 0 says that no whole record has that index, or that
+ * its bytes are none that a call wrote (deadline 0, or a length above 32); source and length are
+ * then 0, and payload is log.
+ */
+PANEL_ANSWER PANEL_NOT_NULL
+static inline PanelLogRecord panel_log_record(const uint8_t *log, size_t log_length, size_t index);
+
+/* A bundle and the place of its reader. A bundle is a run of frames, each behind its length in 16
+   bits, the highest byte first. */
+typedef struct PanelBundle {
+    const uint8_t *bytes;
+    size_t length;
+    size_t place;
+} PanelBundle;
+
+typedef enum PanelBundleStep {
+    PANEL_BUNDLE_FRAME = 0, /* a frame, which may be damaged, and the place moves behind it */
+    PANEL_BUNDLE_END = 1,   /* no byte is left */
+    PANEL_BUNDLE_BROKEN = 2 /* fewer bytes left than a length or its frame needs */
+} PanelBundleStep;
+
+/* A reader at the start of a bundle. It keeps the pointer: the bytes have to outlive it. */
+PANEL_ANSWER PANEL_NOT_NULL
+static inline PanelBundle panel_bundle(const uint8_t *bytes, size_t length);
+
+/*
+ * Points to the next frame, as the part of the bundle that it occupies. With end and broken the
+ * part is empty and the place stays: after broken it stays broken. A place past the end is broken.
+ */
+PANEL_ANSWER PANEL_NOT_NULL
+static inline PanelBundleStep panel_bundle_next(PanelBundle *bundle, const uint8_t **frame,
+                                                size_t *frame_length);
+
+/* ==== For this header alone: the archive's functions. They are not to be called. ==== */
+
+/* They take a record in its parts: marks and barrier are 64 numbers, slots 9,888 bytes. */
+
+typedef struct PanelPartsAnswer {
+    size_t count;
+    size_t length;
+    uint8_t number;
+} PanelPartsAnswer;
+
+typedef struct PanelLogParts {
+    uint32_t deadline;
+    uint8_t source;
+    uint8_t length;
+} PanelLogParts;
+
+typedef struct PanelBundleParts {
+    size_t start;
+    size_t length;
+    size_t next;
+    uint8_t kind;
+} PanelBundleParts;
+
+PANEL_NOT_NULL
+uint8_t panel_fresh_parts(uint8_t number, uint8_t *own, uint32_t *time, uint32_t *high,
+                          size_t *count, uint32_t *marks, uint32_t *barrier, uint8_t *slots);
+
+PANEL_NOT_NULL
+PanelPartsAnswer panel_send_parts(uint8_t own, uint32_t time, uint32_t *high, size_t *count,
+                                  uint32_t *marks, uint32_t *barrier, uint8_t *slots,
+                                  const uint8_t *payload, size_t payload_length, uint16_t lifetime,
+                                  uint8_t *output, size_t output_length, uint8_t *frame,
+                                  size_t frame_length);
+
+PANEL_NOT_NULL
+PanelPartsAnswer panel_receive_parts(uint8_t own, uint32_t time, uint32_t *high, size_t *count,
+                                     uint32_t *marks, uint32_t *barrier, uint8_t *slots,
+                                     const uint8_t *frame, size_t frame_length, uint8_t *output,
+                                     size_t output_length);
+
+PANEL_NOT_NULL
+PanelPartsAnswer panel_clock_parts(uint8_t own, uint32_t *time, uint32_t *high, size_t *count,
+                                   uint32_t *marks, uint32_t *barrier, uint8_t *slots,
+                                   uint32_t reading, uint8_t *output, size_t output_length);
+
+PANEL_NOT_NULL
 uint8_t frame_check(const uint8_t *frame, size_t length);
 
+PANEL_NOT_NULL
+PanelLogParts panel_log_fields(const uint8_t *log, size_t length, size_t index);
+
+PANEL_NOT_NULL
+PanelBundleParts panel_bundle_step(const uint8_t *bundle, size_t length, size_t place);
+
+/* ---- The layouts ---- */
+
+#ifdef __cplusplus
+#define PANEL_ASSERT(claim, words) static_assert(claim, words)
+#define PANEL_SIZE_OF(type, field) sizeof(type::field)
+#else
+#define PANEL_ASSERT(claim, words) _Static_assert(claim, words)
+#define PANEL_SIZE_OF(type, field) sizeof(((type *)0)->field)
+#endif
+
+#define PANEL_FIELD(type, field, place, size)                                   \
+    PANEL_ASSERT(offsetof(type, field) == place, "place of " #type "." #field); \
+    PANEL_ASSERT(PANEL_SIZE_OF(type, field) == size, "size of " #type "." #field)
+
+PANEL_FIELD(Panel, own, 0, 1);
+PANEL_FIELD(Panel, time, 4, 4);
+PANEL_FIELD(Panel, high, 8, 4);
+PANEL_FIELD(Panel, count, 16, 8);
+PANEL_FIELD(Panel, marks, 24, 256);
+PANEL_FIELD(Panel, barrier, 280, 256);
+PANEL_FIELD(Panel, slots, 536, 9888);
+PANEL_ASSERT(sizeof(Panel) == 10424, "size of Panel");
+
+PANEL_FIELD(PanelPartsAnswer, count, 0, 8);
+PANEL_FIELD(PanelPartsAnswer, length, 8, 8);
+PANEL_FIELD(PanelPartsAnswer, number, 16, 1);
+PANEL_ASSERT(sizeof(PanelPartsAnswer) == 24, "size of PanelPartsAnswer");
+
+PANEL_FIELD(PanelLogParts, deadline, 0, 4);
+PANEL_FIELD(PanelLogParts, source, 4, 1);
+PANEL_FIELD(PanelLogParts, length, 5, 1);
+PANEL_ASSERT(sizeof(PanelLogParts) == 8, "size of PanelLogParts");
+
+PANEL_FIELD(PanelBundleParts, start, 0, 8);
+PANEL_FIELD(PanelBundleParts, length, 8, 8);
+PANEL_FIELD(PanelBundleParts, next, 16, 8);
+PANEL_FIELD(PanelBundleParts, kind, 24, 1);
+PANEL_ASSERT(sizeof(PanelBundleParts) == 32, "size of PanelBundleParts");
+
+PANEL_ASSERT((PANEL_WAITING_MAX + 1) * PANEL_LOG_RECORD == PANEL_OUTPUT_MIN, "output");
+PANEL_ASSERT(PANEL_WAITING_MAX * PANEL_SLOT_BYTES == PANEL_SLOTS_BYTES, "slots");
+
+#undef PANEL_FIELD
+#undef PANEL_SIZE_OF
+#undef PANEL_ASSERT
 #undef PANEL_ANSWER
 #undef PANEL_NOT_NULL
+
+/* ---- The calls over these functions ---- */
+
+static inline const char *panel_number_text(PanelNumber number)
+{
+    switch (number) {
+    case PANEL_ACCEPTED: return "accepted";
+    case PANEL_REFUSED_FRAME_SHORT:
+        return "fewer than 19 bytes, or too few for the entries and the length byte, or too few "
+               "for the payload";
+    case PANEL_REFUSED_FRAME_MARK: return "mark: not hexadecimal 44 52 59";
+    case PANEL_REFUSED_FRAME_VERSION: return "version: not 1";
+    case PANEL_REFUSED_FRAME_SOURCE: return "source: not 0 to 63";
+    case PANEL_REFUSED_FRAME_DEADLINE: return "deadline 0";
+    case PANEL_REFUSED_FRAME_ENTRY: return "entries: not each 1 or more and below the deadline";
+    case PANEL_REFUSED_FRAME_PAYLOAD_LENGTH: return "payload length: not 0 to 32";
+    case PANEL_REFUSED_FRAME_LEFT_OVER: return "bytes left over";
+    case PANEL_REFUSED_PAYLOAD_LONG: return "payload to send longer than 32";
+    case PANEL_REFUSED_BUFFER_SHORT:
+        return "output under 1,254 bytes, or the frame buffer of a send under 307";
+    case PANEL_REFUSED_PANEL_NUMBER: return "a panel number above 63 asked of a fresh panel";
+    case PANEL_REFUSED_OWN_SOURCE: return "the frame's source is the own number";
+    case PANEL_REFUSED_LAPSED: return "the message has lapsed";
+    case PANEL_REFUSED_HAD_ALREADY:
+        return "its deadline is at most its source's mark, or it is waiting already";
+    case PANEL_REFUSED_LIST_FULL: return "32 are waiting and this one is not ready";
+    case PANEL_REFUSED_DEADLINE_TOO_HIGH: return "the deadline of a send would pass 4,294,967,295";
+    case PANEL_REFUSED_CLOCK_BACK: return "the clock reading is below the panel's time";
+    case PANEL_REFUSED_RECORD_BROKEN:
+        return "the record has an own number above 63, a mark or barrier entry above high, over 32 "
+               "waiting, or a waiting message that no readable frame carries";
+    }
+    return "no number of document 01";
+}
+
+static inline PanelNumber panel_fresh(Panel *panel, uint8_t number)
+{
+    memset(panel, 0, offsetof(Panel, marks)); /* for the bytes between the fields */
+    return (PanelNumber)panel_fresh_parts(number, &panel->own, &panel->time, &panel->high,
+                                          &panel->count, panel->marks, panel->barrier,
+                                          panel->slots);
+}
+
+static inline PanelAnswer panel_answer_of(PanelPartsAnswer parts)
+{
+    PanelAnswer answer = {parts.count, parts.length, (PanelNumber)parts.number};
+    return answer;
+}
+
+static inline PanelAnswer panel_send(Panel *panel, const uint8_t *payload, size_t payload_length,
+                                     uint16_t lifetime, uint8_t *output, size_t output_length,
+                                     uint8_t *frame, size_t frame_length)
+{
+    return panel_answer_of(panel_send_parts(panel->own, panel->time, &panel->high, &panel->count,
+                                            panel->marks, panel->barrier, panel->slots, payload,
+                                            payload_length, lifetime, output, output_length, frame,
+                                            frame_length));
+}
+
+static inline PanelAnswer panel_receive(Panel *panel, const uint8_t *frame, size_t frame_length,
+                                        uint8_t *output, size_t output_length)
+{
+    return panel_answer_of(panel_receive_parts(panel->own, panel->time, &panel->high, &panel->count,
+                                               panel->marks, panel->barrier, panel->slots, frame,
+                                               frame_length, output, output_length));
+}
+
+static inline PanelAnswer panel_clock(Panel *panel, uint32_t time, uint8_t *output,
+                                      size_t output_length)
+{
+    return panel_answer_of(panel_clock_parts(panel->own, &panel->time, &panel->high, &panel->count,
+                                             panel->marks, panel->barrier, panel->slots, time,
+                                             output, output_length));
+}
+
+static inline PanelNumber panel_frame_check(const uint8_t *frame, size_t frame_length)
+{
+    return (PanelNumber)frame_check(frame, frame_length);
+}
+
+static inline PanelLogRecord panel_log_record(const uint8_t *log, size_t log_length, size_t index)
+{
+    PanelLogParts parts = panel_log_fields(log, log_length, index);
+    PanelLogRecord record = {log, 0, 0, 0};
+    if (parts.deadline != 0) {
+        record.payload = log + index * PANEL_LOG_RECORD + PANEL_LOG_PAYLOAD_AT;
+        record.deadline = parts.deadline;
+        record.source = parts.source;
+        record.length = parts.length;
+    }
+    return record;
+}
+
+static inline PanelBundle panel_bundle(const uint8_t *bytes, size_t length)
+{
+    PanelBundle bundle = {bytes, length, 0};
+    return bundle;
+}
+
+static inline PanelBundleStep panel_bundle_next(PanelBundle *bundle, const uint8_t **frame,
+                                                size_t *frame_length)
+{
+    PanelBundleParts parts = panel_bundle_step(bundle->bytes, bundle->length, bundle->place);
+    *frame = bundle->bytes + parts.start;
+    *frame_length = parts.length;
+    bundle->place = parts.next;
+    return (PanelBundleStep)parts.kind;
+}
 
 #ifdef __cplusplus
 }

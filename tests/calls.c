@@ -1,56 +1,22 @@
 /*
  * The calls as a C program sees them: bench cases 1, 2 and 4 to 11 of document 01, every refusal
  * and the order of refusals, and what a call leaves as it was. Frames and log records are written
- * in hexadecimal, from document 01 by hand. The last line counts the checks. tests/run.sh builds
- * and runs it.
+ * in hexadecimal, from document 01 by hand.
  */
 #include "panel.h"
+#include "tests.h"
 
-#include <stdbool.h>
 #include <stdio.h>
-#include <stdlib.h>
 #include <string.h>
 
 /* ---- Checks ---- */
 
-static unsigned long checks, failed;
-static const char *part; /* what is tested at the moment */
-static bool seen[256];   /* which numbers were answered */
+static bool seen[256]; /* which numbers were answered */
 
-/* Counts a check. Of one that fails it prints place and name; the caller prints the difference. */
-static bool fails(bool holds, int line, const char *what)
-{
-    checks++;
-    if (holds)
-        return false;
-    failed++;
-    printf("%s:%d: %s: %s", __FILE__, line, part, what);
-    return true;
-}
-
-static void same_number(int line, const char *what, uint64_t given, uint64_t expected)
-{
-    if (fails(given == expected, line, what))
-        printf(" is %llu, expected %llu\n", (unsigned long long)given,
-               (unsigned long long)expected);
-}
-
-/* The number of an answer. */
-static void same_answer(int line, uint8_t given, uint8_t expected)
+static void same_answer(int line, PanelNumber given, PanelNumber expected)
 {
     seen[given] = true;
     same_number(line, "number", given, expected);
-}
-
-/* `start` is the place that counts as byte 0 in what is printed. */
-static void same_bytes(int line, const char *what, const uint8_t *given, const uint8_t *expected,
-                       size_t length, size_t start)
-{
-    size_t i = 0;
-    while (i < length && given[i] == expected[i])
-        i++;
-    if (fails(i == length, line, what))
-        printf(": byte %ld is %02x, expected %02x\n", (long)i - (long)start, given[i], expected[i]);
 }
 
 /* Marks or barrier entries. */
@@ -60,7 +26,7 @@ static void same_numbers(int line, const char *what, const uint32_t *given,
     size_t s = 0;
     while (s < PANEL_PANELS && given[s] == expected[s])
         s++;
-    if (fails(s == PANEL_PANELS, line, what))
+    if (fails(s == PANEL_PANELS, __FILE__, line, what))
         printf(" of panel %zu is %u, expected %u\n", s, given[s], expected[s]);
 }
 
@@ -73,12 +39,11 @@ static void same_record(int line, const Panel *given, const Panel *expected)
     same_numbers(line, "mark", given->marks, expected->marks);
     same_numbers(line, "barrier entry", given->barrier, expected->barrier);
     same_number(line, "number of waiting messages", given->count, expected->count);
-    for (size_t i = 0; i < expected->count && i < PANEL_WAITING_MAX; i++) {
+    for (size_t i = 0; i < expected->count; i++) {
         const uint8_t *slot = expected->slots + i * PANEL_SLOT_BYTES;
         size_t length = (size_t)slot[0] << 8 | slot[1];
-        if (length <= PANEL_FRAME_MAX)
-            same_bytes(line, "slot of a waiting message", given->slots + i * PANEL_SLOT_BYTES, slot,
-                       2 + length, 0);
+        same_bytes(line, "slot of a waiting message", given->slots + i * PANEL_SLOT_BYTES, slot,
+                   2 + length, 0);
     }
 }
 
@@ -111,39 +76,13 @@ typedef struct {
     bool broken;                            /* whether it is given a record with 33 waiting */
     int output_more;                        /* bytes of the output beyond the least */
     int buffer_more;                        /* bytes of the frame buffer beyond the least */
-    uint8_t number;                         /* what it is to answer */
+    PanelNumber number;                     /* what it is to answer */
     const char *log[PANEL_WAITING_MAX + 1]; /* log records without zeros after the payload's end */
     const char *frame;                      /* the frame that a send is to write */
     Record record;                          /* the record that it is to give, unless refused */
 } Step;
 
 static Panel panels[PANEL_PANELS];
-
-/* What send, receive and clock answer; only a send has a length. */
-typedef struct {
-    uint8_t number;
-    size_t count;
-    size_t length;
-    Panel panel;
-} Answer;
-
-static uint8_t digit(char c)
-{
-    return (uint8_t)(c <= '9' ? c - '0' : c - 'a' + 10);
-}
-
-/* Puts the bytes that a text in hexadecimal stands for, and gives how many they are. */
-static size_t put_bytes(uint8_t *bytes, const char *text)
-{
-    size_t length = 0;
-    for (; *text != '\0'; text++) {
-        if (*text == ' ')
-            continue;
-        bytes[length++] = (uint8_t)(digit(text[0]) << 4 | digit(text[1]));
-        text++;
-    }
-    return length;
-}
 
 /* Puts a frame behind the waiting ones. */
 static void put_waiting(Panel *p, const char *frame)
@@ -175,35 +114,29 @@ static Panel panel_of(uint8_t own, const Record *record)
 
 enum { MARGIN = 64, MORE_MAX = 100, BYTES_MAX = 400 };
 
-/* What is lent starts behind the margin. All bytes have a content that shows their place. */
+/* What is lent to a call starts behind a margin. Each byte has a content that shows its place. */
 static uint8_t output[MARGIN + PANEL_OUTPUT_MIN + MORE_MAX + MARGIN];
 static uint8_t buffer[MARGIN + PANEL_FRAME_MAX + MORE_MAX + MARGIN];
+static struct {
+    uint8_t before[MARGIN];
+    Panel panel;
+    uint8_t behind[MARGIN];
+} lent;
 
-static void paint(uint8_t *bytes, size_t length)
-{
-    for (size_t i = 0; i < length; i++)
-        bytes[i] = (uint8_t)(i * 7 + 131);
-}
-
-/* Makes the call of a step on a record, with its bytes. */
-static Answer make(const Step *s, const Panel *p, const uint8_t *bytes, size_t length)
+/* Makes the call of a step on the lent record, with its bytes. */
+static PanelAnswer make(const Step *s, const uint8_t *bytes, size_t length)
 {
     size_t output_length = (size_t)(PANEL_OUTPUT_MIN + s->output_more);
     size_t buffer_length = (size_t)(PANEL_FRAME_MAX + s->buffer_more);
 
     paint(output, sizeof output);
     paint(buffer, sizeof buffer);
-    if (s->call == SEND) {
-        PanelSent sent = panel_send(*p, bytes, length, (uint16_t)s->value, output + MARGIN,
-                                    output_length, buffer + MARGIN, buffer_length);
-        return (Answer){sent.number, sent.count, sent.length, sent.panel};
-    }
-    if (s->call == RECEIVE) {
-        PanelReceived received = panel_receive(*p, bytes, length, output + MARGIN, output_length);
-        return (Answer){received.number, received.count, 0, received.panel};
-    }
-    PanelClocked clocked = panel_clock(*p, s->value, output + MARGIN, output_length);
-    return (Answer){clocked.number, clocked.count, 0, clocked.panel};
+    if (s->call == SEND)
+        return panel_send(&lent.panel, bytes, length, (uint16_t)s->value, output + MARGIN,
+                          output_length, buffer + MARGIN, buffer_length);
+    if (s->call == RECEIVE)
+        return panel_receive(&lent.panel, bytes, length, output + MARGIN, output_length);
+    return panel_clock(&lent.panel, s->value, output + MARGIN, output_length);
 }
 
 /* Every byte of the output: the log records, and the old content before and behind them. */
@@ -235,56 +168,85 @@ static size_t check_buffer(const Step *s)
     return length;
 }
 
-/* After a refusal the very record comes back: the bytes that are no part of it too. */
-static void check_record(const Step *s, const Panel *given_back, const Panel *given)
+/* Lends a record: all its bytes, those between the fields too. */
+static void lend(const Panel *panel)
 {
-    if (s->number == PANEL_ACCEPTED) {
-        Panel expected = panel_of(s->at, &s->record);
-        same_record(s->line, given_back, &expected);
-        return;
-    }
-    same_record(s->line, given_back, given);
-    same_bytes(s->line, "slots", given_back->slots, given->slots, PANEL_SLOTS_BYTES, 0);
+    paint(lent.before, MARGIN);
+    paint(lent.behind, MARGIN);
+    memcpy(&lent.panel, panel, sizeof lent.panel);
 }
 
-/* Makes the call of a step on a record, checks all that it gives, and gives the record back. */
-static Panel call(const Step *s, const Panel *given)
+static void check_margins(int line)
+{
+    uint8_t expected[MARGIN];
+
+    paint(expected, MARGIN);
+    same_bytes(line, "margin before the record", lent.before, expected, MARGIN, MARGIN);
+    same_bytes(line, "margin behind the record", lent.behind, expected, MARGIN, 0);
+}
+
+/* The record that was lent: after a refusal each of its bytes is as it was. */
+static void check_record(const Step *s, const Panel *given)
+{
+    check_margins(s->line);
+    if (s->number != PANEL_ACCEPTED) {
+        same_bytes(s->line, "record", &lent.panel, given, sizeof lent.panel, 0);
+        return;
+    }
+    Panel expected = panel_of(s->at, &s->record);
+    same_record(s->line, &lent.panel, &expected);
+}
+
+/* Makes the call of a step on a copy of a record, and checks all that it gives. */
+static void call(const Step *s, const Panel *given)
 {
     uint8_t expected[BYTES_MAX];
     size_t length = s->bytes != NULL ? put_bytes(expected, s->bytes) : 0;
-    uint8_t *block = malloc(1 + length); /* ends with the bytes: valgrind sees a read behind them */
+    uint8_t *bytes = copy_of(expected, length);
 
-    if (block == NULL)
-        abort();
-    memcpy(block + 1, expected, length);
-    Answer answer = make(s, given, block + 1, length);
+    lend(given);
+    PanelAnswer answer = make(s, bytes, length);
     same_answer(s->line, answer.number, s->number);
     same_number(s->line, "count of log records", answer.count, check_output(s));
     same_number(s->line, "length of the frame", answer.length, check_buffer(s));
-    same_bytes(s->line, "bytes that the call was given", block + 1, expected, length, 0);
-    check_record(s, &answer.panel, given);
-    free(block);
-    return answer.panel;
+    same_bytes(s->line, "bytes that the call was given", bytes, expected, length, 0);
+    check_record(s, given);
+    free_copy(bytes);
 }
 
 /* A step at one of the panels; its record moves on, unless a broken one was given instead. */
 static void step(const Step *s)
 {
-    Panel given = panels[s->at];
+    Panel *panel = &panels[s->at];
+    size_t count = panel->count;
+
     if (s->broken)
-        given.count = PANEL_WAITING_MAX + 1;
-    Panel given_back = call(s, &given);
-    if (!s->broken)
-        panels[s->at] = given_back;
+        panel->count = PANEL_WAITING_MAX + 1;
+    call(s, panel);
+    memcpy(panel, &lent.panel, sizeof *panel);
+    if (s->broken)
+        panel->count = count;
 }
 
-/* Starts a part of the tests: 64 fresh panels, with bytes behind their lists that are not 0. */
+/* Paints what is no part of a fresh record: the slots, and the bytes between the fields. */
+static void paint_unused(Panel *panel)
+{
+    uint8_t *bytes = (uint8_t *)panel;
+    size_t own_end = offsetof(Panel, own) + sizeof panel->own;
+    size_t high_end = offsetof(Panel, high) + sizeof panel->high;
+
+    paint(panel->slots, sizeof panel->slots);
+    paint(bytes + own_end, offsetof(Panel, time) - own_end);
+    paint(bytes + high_end, offsetof(Panel, count) - high_end);
+}
+
+/* Starts a part of the tests: 64 fresh panels. */
 static void start(const char *name)
 {
     part = name;
     for (size_t own = 0; own < PANEL_PANELS; own++) {
-        panels[own] = panel_fresh((uint8_t)own).panel;
-        paint(panels[own].slots, PANEL_SLOTS_BYTES);
+        same_answer(__LINE__, panel_fresh(&panels[own], (uint8_t)own), PANEL_ACCEPTED);
+        paint_unused(&panels[own]);
     }
 }
 
@@ -439,7 +401,7 @@ static void fill(void)
 }
 
 /* Panel 7 receives a frame; what an accepted one is to give stands in `full`. */
-static void receive_full(int line, const char *frame, uint8_t number)
+static void receive_full(int line, const char *frame, PanelNumber number)
 {
     full.line = line;
     full.bytes = frame;
@@ -749,7 +711,7 @@ static void odd_records(void)
 static const struct {
     int line;
     const char *bytes;
-    uint8_t number;
+    PanelNumber number;
 } frames[] = {
     {__LINE__, "445259 0001 03 00000009 0000000000000008 00000004 03 647279", 0},
     {__LINE__, "445259 0001 00 00000001 0000000000000000 00", 0},
@@ -805,7 +767,10 @@ static void damaged_frames(void)
     start("frames");
     for (size_t i = 0; i < sizeof frames / sizeof frames[0]; i++) {
         size_t length = put_bytes(bytes, frames[i].bytes);
-        same_number(frames[i].line, "frame check", frame_check(bytes, length), frames[i].number);
+        uint8_t *copy = copy_of(bytes, length);
+        same_number(frames[i].line, "frame check", panel_frame_check(copy, length),
+                    frames[i].number);
+        free_copy(copy);
         Step s = {frames[i].line, RECEIVE, .at = 9, .bytes = frames[i].bytes,
                   .number = frames[i].number};
         if (s.number != PANEL_ACCEPTED)
@@ -819,9 +784,9 @@ static void check_longest(const char *frame)
     uint8_t bytes[BYTES_MAX] = {0};
 
     same_number(__LINE__, "length", put_bytes(bytes, frame), PANEL_FRAME_MAX);
-    same_number(__LINE__, "frame check", frame_check(bytes, PANEL_FRAME_MAX), 0);
-    same_number(__LINE__, "frame check", frame_check(bytes, PANEL_FRAME_MAX - 1), 1);
-    same_number(__LINE__, "frame check", frame_check(bytes, PANEL_FRAME_MAX + 1), 8);
+    same_number(__LINE__, "frame check", panel_frame_check(bytes, PANEL_FRAME_MAX), 0);
+    same_number(__LINE__, "frame check", panel_frame_check(bytes, PANEL_FRAME_MAX - 1), 1);
+    same_number(__LINE__, "frame check", panel_frame_check(bytes, PANEL_FRAME_MAX + 1), 8);
 }
 
 /* Panel 63 sends, takes a message of each other panel, and sends a frame with 64 entries. */
@@ -861,17 +826,23 @@ static void longest_frame(void)
 
 /* ---- Fresh panels ---- */
 
+/* Every byte of the record, whatever was there before. */
 static void fresh_panels(void)
 {
-    static const Record none;
+    static Panel painted;
 
     part = "fresh panels";
-    for (unsigned own = 0; own < 256; own++) {
-        bool known = own < PANEL_PANELS;
-        PanelFresh answer = panel_fresh((uint8_t)own);
-        Panel expected = panel_of(known ? (uint8_t)own : 0, &none);
-        same_answer(__LINE__, answer.number, known ? PANEL_ACCEPTED : PANEL_REFUSED_PANEL_NUMBER);
-        same_record(__LINE__, &answer.panel, &expected);
+    paint((uint8_t *)&painted, sizeof painted);
+    for (unsigned number = 0; number < 256; number++) {
+        bool known = number < PANEL_PANELS;
+        Panel expected;
+        memset(&expected, 0, sizeof expected);
+        expected.own = known ? (uint8_t)number : 0;
+        lend(&painted);
+        same_answer(__LINE__, panel_fresh(&lent.panel, (uint8_t)number),
+                    known ? PANEL_ACCEPTED : PANEL_REFUSED_PANEL_NUMBER);
+        same_bytes(__LINE__, "record", &lent.panel, &expected, sizeof expected, 0);
+        check_margins(__LINE__);
     }
 }
 
@@ -881,12 +852,12 @@ static void all_seen(void)
     part = "numbers answered";
     for (int number = PANEL_ACCEPTED; number <= PANEL_REFUSED_RECORD_BROKEN; number++) {
         bool known = number <= PANEL_REFUSED_PANEL_NUMBER || number >= PANEL_REFUSED_OWN_SOURCE;
-        if (fails(seen[number] == known, __LINE__, "number"))
+        if (fails(seen[number] == known, __FILE__, __LINE__, "number"))
             printf(" %d: %s\n", number, known ? "never" : "no number of document 01");
     }
 }
 
-int main(void)
+void test_calls(void)
 {
     fresh_panels();
     RUN("cases 1 and 2", cases_1_and_2);
@@ -909,6 +880,4 @@ int main(void)
     damaged_frames();
     longest_frame();
     all_seen();
-    printf("%lu checks, %lu failed\n", checks, failed);
-    return failed == 0 ? EXIT_SUCCESS : EXIT_FAILURE;
 }

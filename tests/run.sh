@@ -1,18 +1,91 @@
 #!/bin/sh
-# run.sh: builds the archives and the test of their calls, compiles include/panel.h alone as C++,
-# and runs the test. CC and CXX choose the compilers.
-set -e
+# run.sh: installs the module to target/install, and tests what is installed there from C and C++,
+# with each compiler that is there. CC and CXX choose others, as in CC="gcc-13 clang-17".
+set -eu
 cd "$(dirname "$0")/.."
+to=$PWD/target/install
 built=target/tests
-. examples/archives.sh
+warnings="-Wall -Wextra -Wpedantic -Wconversion -Werror"
 
-cxx=${CXX:-g++}
-if command -v $cxx >/dev/null; then
-    $cxx -std=c++17 -Wall -Wextra -Werror -fsyntax-only -x c++ include/panel.h
-else
-    echo "tests: include/panel.h was not compiled as C++, as there is no $cxx." >&2
-fi
+fail() {
+    echo "tests: $*" >&2
+    exit 1
+}
 
-${CC:-gcc} -O2 -std=c11 -Wall -Wextra -Wpedantic -Wconversion -Werror -Iinclude \
-    -o $built/calls tests/calls.c $archives
-exec $built/calls
+there() {
+    command -v "$1" >/dev/null && return
+    echo "tests: $1 was skipped, as it is not there." >&2
+    return 1
+}
+
+# The header, the archive and panel.pc agree.
+install_module() {
+    ./install.sh "$to"
+    flags="-I$to/include" libs="-L$to/lib -lpanel"
+    version=$(sed -n 's/^#define PANEL_VERSION "\(.*\)"/\1/p' "$to/include/panel.h")
+    if there pkg-config; then
+        export PKG_CONFIG_PATH="$to/lib/pkgconfig"
+        flags=$(pkg-config --cflags panel)
+        libs=$(pkg-config --libs panel)
+        [ "$(pkg-config --modversion panel)" = "$version" ] || fail "panel.pc has another version"
+    fi
+    needed=$(nm -u "$to/lib/libpanel.a" | sed -n 's/^ *U //p' | sort -u | tr '\n' ' ')
+    case $needed in
+    'memcpy memset ' | 'memcpy ' | 'memset ' | '') ;;
+    *) fail "libpanel.a needs $needed" ;;
+    esac
+}
+
+# The program in the comment at the head of the header.
+example() {
+    sed -n '/^ \*     #include <panel.h>/,/^ \* What a caller/{
+        s/^ \*     //p
+        s/^ \*$//p
+    }' "$to/include/panel.h" >$built/example.c
+    $1 -O2 -std=c11 $warnings $flags -o $built/example $built/example.c $libs
+    printf '3 1200 OK\n21 bytes to pass on\n' >$built/expected
+    $built/example >$built/given
+    cmp -s $built/expected $built/given || fail "the header's example prints another text"
+}
+
+# A warning that the compiler has to give: NAME of tests/warnings.c, and a word of the warning.
+must_warn() {
+    if $1 -O2 -std=c11 $warnings $flags -D"$2" -c -o $built/warnings.o tests/warnings.c \
+        2>$built/log; then
+        fail "$1 gives no warning with $2"
+    fi
+    grep -q -e "$3" $built/log || fail "$1 gives another warning with $2: $(cat $built/log)"
+}
+
+# The whole archive is linked, so that two objects with one name would be seen.
+test_c() {
+    $1 -O2 -std=c11 $warnings $flags -o $built/tests tests/calls.c tests/readers.c tests/main.c \
+        -Wl,--whole-archive $libs -Wl,--no-whole-archive
+    $built/tests
+    example "$1"
+    $1 -O2 -std=c11 $warnings -Wswitch-enum $flags -c -o $built/warnings.o tests/warnings.c
+    must_warn "$1" CASE_LEFT_OUT PANEL_REFUSED_LIST_FULL
+    must_warn "$1" ANSWER_NOT_LOOKED_AT unused
+    must_warn "$1" NULL_POINTER nonnull
+}
+
+test_cxx() {
+    $1 -O2 -std=c++17 $warnings $flags -o $built/tests_cxx tests/calls.cpp $libs
+    $built/tests_cxx
+}
+
+mkdir -p $built
+install_module
+tested=
+for cc in ${CC:-gcc clang}; do
+    there "$cc" || continue
+    test_c "$cc"
+    tested="$tested $cc"
+done
+[ -n "$tested" ] || fail "there is no C compiler"
+for cxx in ${CXX:-g++ clang++}; do
+    there "$cxx" || continue
+    test_cxx "$cxx"
+    tested="$tested $cxx"
+done
+echo "tests: passed with$tested"

@@ -1,0 +1,66 @@
+// The calls from C++: each is made once, and what it gives is checked. main.c and its files check
+// the calls in full.
+#include "panel.h"
+
+#include <cstdio>
+#include <cstdlib>
+#include <cstring>
+
+// Ends the program if a claim does not hold.
+static void check(bool holds, const char *claim)
+{
+    if (!holds) {
+        std::printf("calls.cpp: %s: this does not hold\n", claim);
+        std::exit(EXIT_FAILURE);
+    }
+}
+
+#define CHECK(claim) check(claim, #claim)
+
+static uint8_t output[PANEL_OUTPUT_MIN];
+
+// Bench case 1: the frame that panel 3 sends, with its length.
+static size_t send(uint8_t (&frame)[PANEL_FRAME_MAX])
+{
+    static Panel three;
+    const uint8_t ok[] = {0x4f, 0x4b};
+
+    CHECK(panel_fresh(&three, 64) == PANEL_REFUSED_PANEL_NUMBER);
+    CHECK(panel_fresh(&three, 3) == PANEL_ACCEPTED);
+    CHECK(panel_clock(&three, 100, output, sizeof output).number == PANEL_ACCEPTED);
+    CHECK(panel_clock(&three, 99, output, sizeof output).number == PANEL_REFUSED_CLOCK_BACK);
+    PanelAnswer sent = panel_send(&three, ok, sizeof ok, 0, output, sizeof output, frame,
+                                  sizeof frame);
+    CHECK(sent.number == PANEL_ACCEPTED && sent.count == 1 && sent.length == 21);
+    return sent.length;
+}
+
+static void receive(const uint8_t *frame, size_t length)
+{
+    static Panel four;
+
+    CHECK(panel_fresh(&four, 4) == PANEL_ACCEPTED);
+    PanelAnswer received = panel_receive(&four, frame, length, output, sizeof output);
+    CHECK(received.number == PANEL_ACCEPTED && received.count == 1 && received.length == 0);
+    PanelLogRecord record = panel_log_record(output, received.count * PANEL_LOG_RECORD, 0);
+    CHECK(record.source == 3 && record.deadline == 1300 && record.length == 2);
+    CHECK(std::memcmp(record.payload, "OK", 2) == 0);
+    CHECK(panel_log_record(output, received.count * PANEL_LOG_RECORD, 1).deadline == 0);
+}
+
+int main()
+{
+    uint8_t bytes[2 + PANEL_FRAME_MAX] = {0, 21}, sent[PANEL_FRAME_MAX];
+    const uint8_t *frame;
+    size_t length = send(sent);
+
+    CHECK(panel_frame_check(sent, length) == PANEL_ACCEPTED);
+    CHECK(panel_frame_check(sent, length - 1) == PANEL_REFUSED_FRAME_SHORT);
+    std::memcpy(bytes + 2, sent, length);
+    PanelBundle bundle = panel_bundle(bytes, 2 + length);
+    CHECK(panel_bundle_next(&bundle, &frame, &length) == PANEL_BUNDLE_FRAME && length == 21);
+    receive(frame, length);
+    CHECK(panel_bundle_next(&bundle, &frame, &length) == PANEL_BUNDLE_END && length == 0);
+    CHECK(std::strcmp(panel_number_text(PANEL_REFUSED_LAPSED), "the message has lapsed") == 0);
+    return EXIT_SUCCESS;
+}

@@ -2,13 +2,13 @@
  * Three panels of a farm in one process: what they send, hand, keep waiting, drop and refuse, and
  * the log of each in the end. It prints what stands in farm.txt; examples/run.sh builds it.
  */
-#include "panel.h"
+#include <panel.h>
 
 #include <stdio.h>
 #include <stdlib.h>
 #include <string.h>
 
-enum { LOG_MAX = 16 };
+enum { LOG_MAX = 16, BUNDLE_MAX = 1024 };
 
 /* A panel: its record, and its log so far. */
 typedef struct {
@@ -24,27 +24,34 @@ typedef struct {
     const char *text;
 } Parcel;
 
-/* Ends the program: a call was refused that is not refused in this story. */
-static _Noreturn void stop(const char *call, uint8_t number)
+/* A tractor cab, and the bundle that it carries. */
+typedef struct {
+    uint8_t bundle[BUNDLE_MAX];
+    size_t length;
+} Cab;
+
+/* Ends the program if a call was refused that is not refused in this story. */
+static void must_be_accepted(const char *call, PanelNumber number)
 {
-    fprintf(stderr, "farm: %s was refused with %u\n", call, number);
+    if (number == PANEL_ACCEPTED)
+        return;
+    fprintf(stderr, "farm: %s was refused with %u: %s\n", call, number, panel_number_text(number));
     exit(1);
 }
 
-/* The deadline in a log record, highest byte first. */
-static uint32_t deadline_of(const uint8_t *record)
+/* Ends the program if something has no room for so many more. */
+static void must_have_room(const char *what, size_t room, size_t more)
 {
-    const uint8_t *at = record + PANEL_LOG_DEADLINE_AT;
-    return (uint32_t)at[0] << 24 | (uint32_t)at[1] << 16 | (uint32_t)at[2] << 8 | at[3];
+    if (more <= room)
+        return;
+    fprintf(stderr, "farm: %s is full\n", what);
+    exit(1);
 }
 
 /* Puts the log records of a call at the end of the log. */
 static void keep(Member *member, const uint8_t *output, size_t count)
 {
-    if (count > LOG_MAX - member->logged) {
-        fprintf(stderr, "farm: the log of panel %u is full\n", member->record.own);
-        exit(1);
-    }
+    must_have_room("a log", LOG_MAX - member->logged, count);
     memcpy(member->log + member->logged * PANEL_LOG_RECORD, output, count * PANEL_LOG_RECORD);
     member->logged += count;
 }
@@ -55,22 +62,17 @@ static void set_clock(Member *member, uint32_t time)
     uint8_t output[PANEL_OUTPUT_MIN];
     size_t waiting = member->record.count;
 
-    PanelClocked answer = panel_clock(member->record, time, output, sizeof output);
-    if (answer.number != PANEL_ACCEPTED)
-        stop("panel_clock", answer.number);
-    member->record = answer.panel;
+    PanelAnswer answer = panel_clock(&member->record, time, output, sizeof output);
+    must_be_accepted("panel_clock", answer.number);
     keep(member, output, answer.count);
-    printf("panel %u sets its time to %u: %zu handed, %zu dropped\n", answer.panel.own, time,
-           answer.count, waiting - answer.count - answer.panel.count);
+    printf("panel %u sets its time to %u: %zu handed, %zu dropped\n", member->record.own, time,
+           answer.count, waiting - answer.count - member->record.count);
 }
 
 /* A panel comes to life. */
-static void start(Member *member, uint8_t own, uint32_t time)
+static void start(Member *member, uint8_t number, uint32_t time)
 {
-    PanelFresh answer = panel_fresh(own);
-    if (answer.number != PANEL_ACCEPTED)
-        stop("panel_fresh", answer.number);
-    member->record = answer.panel;
+    must_be_accepted("panel_fresh", panel_fresh(&member->record, number));
     member->logged = 0;
     set_clock(member, time);
 }
@@ -81,32 +83,34 @@ static Parcel send_text(Member *member, const char *text)
     uint8_t output[PANEL_OUTPUT_MIN];
     Parcel parcel = {.text = text};
 
-    PanelSent answer = panel_send(member->record, (const uint8_t *)text, strlen(text), 0,
-                                  output, sizeof output, parcel.bytes, sizeof parcel.bytes);
-    if (answer.number != PANEL_ACCEPTED)
-        stop("panel_send", answer.number);
-    member->record = answer.panel;
+    PanelAnswer answer = panel_send(&member->record, (const uint8_t *)text, strlen(text), 0, output,
+                                    sizeof output, parcel.bytes, sizeof parcel.bytes);
+    must_be_accepted("panel_send", answer.number);
     keep(member, output, answer.count);
     parcel.length = answer.length;
     /* the first log record of a send is that of the message sent */
-    printf("panel %u sends \"%s\" with deadline %u\n", answer.panel.own, text, deadline_of(output));
+    printf("panel %u sends \"%s\" with deadline %u\n", member->record.own, text,
+           panel_log_record(output, sizeof output, 0).deadline);
     return parcel;
 }
 
 /* A frame comes in at a panel. Here a refusal is no mistake: copies and late frames are usual. */
-static void receive(Member *member, const Parcel *parcel)
+static void receive_frame(Member *member, const uint8_t *frame, size_t length)
 {
     uint8_t output[PANEL_OUTPUT_MIN];
 
-    PanelReceived answer = panel_receive(member->record, parcel->bytes, parcel->length,
-                                         output, sizeof output);
-    member->record = answer.panel;
+    PanelAnswer answer = panel_receive(&member->record, frame, length, output, sizeof output);
     keep(member, output, answer.count);
-    printf("panel %u receives \"%s\": ", answer.panel.own, parcel->text);
     if (answer.number == PANEL_ACCEPTED)
-        printf("%zu handed, %zu waiting\n", answer.count, answer.panel.count);
+        printf("%zu handed, %zu waiting\n", answer.count, member->record.count);
     else
         printf("refused with %u\n", answer.number);
+}
+
+static void receive(Member *member, const Parcel *parcel)
+{
+    printf("panel %u receives \"%s\": ", member->record.own, parcel->text);
+    receive_frame(member, parcel->bytes, parcel->length);
 }
 
 /* The radio looks at a frame that was damaged on its way, here in the first byte of its mark. */
@@ -114,7 +118,37 @@ static void check_damaged(Parcel parcel)
 {
     parcel.bytes[0] ^= 1;
     printf("a damaged copy of \"%s\": the frame check answers %u\n", parcel.text,
-           frame_check(parcel.bytes, parcel.length));
+           panel_frame_check(parcel.bytes, parcel.length));
+}
+
+/* A cab takes a frame along: it puts it into its bundle, behind its length in 16 bits. */
+static void take_along(Cab *cab, const Parcel *parcel)
+{
+    uint8_t *end = cab->bundle + cab->length;
+
+    must_have_room("a bundle", BUNDLE_MAX - cab->length, 2 + parcel->length);
+    end[0] = (uint8_t)(parcel->length >> 8);
+    end[1] = (uint8_t)parcel->length;
+    memcpy(end + 2, parcel->bytes, parcel->length);
+    cab->length += 2 + parcel->length;
+}
+
+/* A cab meets a panel and passes its bundle. */
+static void receive_bundle(Member *member, const Cab *cab)
+{
+    PanelBundle bundle = panel_bundle(cab->bundle, cab->length);
+    PanelBundleStep step;
+    const uint8_t *frame;
+    size_t length;
+    unsigned frames = 0;
+
+    printf("a cab passes panel %u a bundle of %zu bytes\n", member->record.own, cab->length);
+    while ((step = panel_bundle_next(&bundle, &frame, &length)) == PANEL_BUNDLE_FRAME) {
+        frames++;
+        printf("panel %u receives frame %u of the bundle: ", member->record.own, frames);
+        receive_frame(member, frame, length);
+    }
+    printf("the bundle %s\n", step == PANEL_BUNDLE_END ? "ends" : "is broken");
 }
 
 /* Source, deadline and text of each log record. */
@@ -122,15 +156,16 @@ static void print_log(const Member *member)
 {
     printf("\nlog of panel %u\n", member->record.own);
     for (size_t i = 0; i < member->logged; i++) {
-        const uint8_t *record = member->log + i * PANEL_LOG_RECORD;
-        printf("  %u %u %.*s\n", record[PANEL_LOG_SOURCE_AT], deadline_of(record),
-               record[PANEL_LOG_LENGTH_AT], (const char *)record + PANEL_LOG_PAYLOAD_AT);
+        PanelLogRecord record = panel_log_record(member->log, sizeof member->log, i);
+        printf("  %u %u %.*s\n", record.source, record.deadline, record.length,
+               (const char *)record.payload);
     }
 }
 
 int main(void)
 {
     static Member three, five, nine;
+    static Cab cab;
 
     /* no common clock */
     start(&three, 3, 100);
@@ -151,6 +186,13 @@ int main(void)
     check_damaged(hold);
     receive(&nine, &hold);
     receive(&nine, &hold);
+
+    /* a tractor cab brings two in a bundle, the later one first */
+    Parcel full = send_text(&five, "bin 4 full");
+    Parcel emptied = send_text(&five, "bin 4 emptied");
+    take_along(&cab, &emptied);
+    take_along(&cab, &full);
+    receive_bundle(&nine, &cab);
 
     /* two that lapse: one while it waits for the other, which then comes too late */
     Parcel fan_on = send_text(&three, "fan 2 on");

@@ -1,10 +1,19 @@
 #!/bin/sh
-# run.sh: builds the archives and the example farm in C and in Rust, runs both, and compares what
-# they print with farm.txt. CC chooses the C compiler.
-set -e
+# run.sh: installs the module to target/install, builds the example farm in C and in Rust against
+# what is installed there, runs both, and compares what they print with farm.txt. CC chooses the C
+# compiler.
+set -eu
 cd "$(dirname "$0")/.."
+to=$PWD/target/install
 built=target/examples
-. examples/archives.sh
+mkdir -p $built
+./install.sh "$to"
+if command -v pkg-config >/dev/null; then
+    export PKG_CONFIG_PATH="$to/lib/pkgconfig"
+    flags=$(pkg-config --cflags panel) libs=$(pkg-config --libs panel)
+else
+    flags="-I$to/include" libs="-L$to/lib -lpanel"
+fi
 
 # run NAME PROGRAM: runs the program and compares its text with farm.txt.
 run() {
@@ -15,14 +24,14 @@ run() {
     }
 }
 
-${CC:-gcc} -O2 -std=c11 -Wall -Wextra -Wpedantic -Wconversion -Werror -Iinclude \
-    -o $built/farm_c examples/farm.c $archives
+${CC:-gcc} -O2 -std=c11 -Wall -Wextra -Wpedantic -Wconversion -Werror $flags \
+    -o $built/farm_c examples/farm.c $libs
 run C $built/farm_c
 
 cat examples/farm.txt
 if command -v rustc >/dev/null; then
-    rustc --edition 2021 -O -D warnings --crate-type rlib -L native=target/staticlib \
-        --out-dir $built examples/rust/panel.rs
+    rustc --edition 2021 -O -D warnings --crate-type rlib -L native="$to/lib" \
+        --out-dir $built "$to/share/panel/panel.rs"
     rustc --edition 2021 -O -D warnings --extern panel=$built/libpanel.rlib \
         -o $built/farm_rust examples/rust/farm.rs
     run Rust $built/farm_rust

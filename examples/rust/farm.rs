@@ -1,13 +1,13 @@
 //! The example of examples/farm.c in Rust: the same story, and the same text.
 #![forbid(unsafe_code)]
 
-use panel::{frame_check, Frame, Log, LogRecord, Panel, Refusal};
+use panel::{frame_check, log_records, Bundle, Frame, Log, Panel, Refusal};
 use std::process::ExitCode;
 
 /// A panel, and its log so far.
 struct Member {
     panel: Panel,
-    log: Vec<LogRecord>,
+    log: Vec<u8>,
 }
 
 /// A frame on its way from panel to panel, and the text in it, for printing.
@@ -29,7 +29,7 @@ impl Member {
 
     /// Puts the log records of a call at the end of the log.
     fn keep(&mut self, log: &Log) {
-        self.log.extend(log.records());
+        self.log.extend_from_slice(log.bytes());
     }
 
     /// The clock of the panel shows a time.
@@ -52,19 +52,18 @@ impl Member {
         self.keep(&log);
         // the first log record of a send is that of the message sent
         if let Some(record) = log.records().next() {
-            let deadline = record.deadline();
             println!(
-                "panel {} sends \"{text}\" with deadline {deadline}",
-                self.panel.own()
+                "panel {} sends \"{text}\" with deadline {}",
+                self.panel.own(),
+                record.deadline
             );
         }
         Ok(Parcel { frame, text })
     }
 
     /// A frame comes in. Here a refusal is no mistake: copies and late frames are usual.
-    fn receive(&mut self, parcel: &Parcel) {
-        print!("panel {} receives \"{}\": ", self.panel.own(), parcel.text);
-        match self.panel.receive(&parcel.frame) {
+    fn receive_frame(&mut self, frame: &[u8]) {
+        match self.panel.receive(frame) {
             Ok(log) => {
                 self.keep(&log);
                 println!("{} handed, {} waiting", log.len(), self.panel.waiting());
@@ -73,12 +72,35 @@ impl Member {
         }
     }
 
+    fn receive(&mut self, parcel: &Parcel) {
+        print!("panel {} receives \"{}\": ", self.panel.own(), parcel.text);
+        self.receive_frame(&parcel.frame);
+    }
+
+    /// A cab meets the panel and passes its bundle.
+    fn receive_bundle(&mut self, bundle: &[u8]) {
+        let own = self.panel.own();
+        println!(
+            "a cab passes panel {own} a bundle of {} bytes",
+            bundle.len()
+        );
+        for (i, step) in Bundle::new(bundle).enumerate() {
+            let Ok(frame) = step else {
+                println!("the bundle is broken");
+                return;
+            };
+            print!("panel {own} receives frame {} of the bundle: ", i + 1);
+            self.receive_frame(frame);
+        }
+        println!("the bundle ends");
+    }
+
     /// Source, deadline and text of each log record.
     fn print_log(&self) {
         println!("\nlog of panel {}", self.panel.own());
-        for record in &self.log {
-            let text = String::from_utf8_lossy(record.payload());
-            println!("  {} {} {text}", record.source(), record.deadline());
+        for record in log_records(&self.log) {
+            let text = String::from_utf8_lossy(record.payload);
+            println!("  {} {} {text}", record.source, record.deadline);
         }
     }
 }
@@ -90,6 +112,13 @@ fn check_damaged(parcel: &Parcel) {
     let number = frame_check(&bytes).map_or_else(Refusal::number, |()| 0);
     let text = parcel.text;
     println!("a damaged copy of \"{text}\": the frame check answers {number}");
+}
+
+/// A cab takes a frame along: it puts it into its bundle, behind its length in 16 bits.
+fn take_along(bundle: &mut Vec<u8>, parcel: &Parcel) {
+    // a frame has at most 307 bytes
+    bundle.extend_from_slice(&(parcel.frame.len() as u16).to_be_bytes());
+    bundle.extend_from_slice(&parcel.frame);
 }
 
 fn story() -> Result<(), Refusal> {
@@ -112,6 +141,14 @@ fn story() -> Result<(), Refusal> {
     check_damaged(&hold);
     nine.receive(&hold);
     nine.receive(&hold);
+
+    // a tractor cab brings two in a bundle, the later one first
+    let full = five.send("bin 4 full")?;
+    let emptied = five.send("bin 4 emptied")?;
+    let mut cab = Vec::new();
+    take_along(&mut cab, &emptied);
+    take_along(&mut cab, &full);
+    nine.receive_bundle(&cab);
 
     // two that lapse: one while it waits for the other, which then comes too late
     let fan_on = three.send("fan 2 on")?;

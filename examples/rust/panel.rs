@@ -1,16 +1,19 @@
-//! The calls of libpanel.a and libframe.a for Rust, safe to use. include/panel.h says what each
-//! call does.
+//! The calls of libpanel.a for Rust, safe to use. panel.h says what each call does.
 //!
 //! What that header asks of a caller holds here by the types: a slice is never null and has its
 //! true length; output and frame buffer are made anew for each call, with the room that it asks
 //! for; a `Panel` is lent for the time of a call, and can't be copied, so that nobody goes on with
-//! an older record. One thing is left: a call needs about 48 KB of stack, and 70 KB if it is
-//! compiled without -O. Nothing is allocated.
+//! an older record. One thing is left: the stack. A call takes `STACK_BYTES` at most, and what it
+//! returns 2 KB; a `Panel` has 10 KB, twice that while `Panel::fresh` makes it. Nothing is
+//! allocated.
 #![no_std]
 
 use core::fmt;
+use core::iter::FusedIterator;
 use core::ops::Deref;
 
+/// The stack that a call of the archive needs, at most.
+pub const STACK_BYTES: usize = 8192;
 /// Panels of a farm, numbered from 0.
 pub const PANELS: usize = 64;
 /// Messages that may wait at a panel.
@@ -23,12 +26,16 @@ pub const LIFETIME_DEFAULT: u16 = 1200;
 pub const FRAME_MAX: usize = 307;
 /// Bytes of a log record.
 pub const LOG_RECORD: usize = 38;
+/// Where the payload stands in a log record.
+const LOG_PAYLOAD_AT: usize = 6;
 /// Bytes of the output: 33 log records.
 const OUTPUT: usize = 1254;
+/// Bytes of the waiting list.
+const SLOTS: usize = 9888;
 
-/// The archives as they are.
+/// The archive as it is.
 mod archive {
-    use super::PANELS;
+    use super::{PANELS, SLOTS};
     use core::mem::{offset_of, size_of};
 
     #[cfg(not(all(
@@ -36,46 +43,28 @@ mod archive {
         target_os = "linux",
         target_pointer_width = "64"
     )))]
-    compile_error!("libpanel.a and libframe.a are for x86-64 System V (64-bit Linux)");
-
-    #[derive(Clone, Copy)]
-    #[repr(C)]
-    pub struct Record {
-        pub own: u8,
-        pub time: u32,
-        pub high: u32,
-        pub count: usize,
-        pub marks: [u32; PANELS],
-        pub barrier: [u32; PANELS],
-        pub slots: [u8; 9888],
-    }
+    compile_error!("libpanel.a is for x86-64 System V (64-bit Linux)");
 
     #[repr(C)]
-    pub struct Fresh {
-        pub panel: Record,
-        pub number: u8,
-    }
-
-    #[repr(C)]
-    pub struct Sent {
-        pub panel: Record,
+    pub struct Answer {
         pub count: usize,
         pub length: usize,
         pub number: u8,
     }
 
     #[repr(C)]
-    pub struct Received {
-        pub panel: Record,
-        pub count: usize,
-        pub number: u8,
+    pub struct LogFields {
+        pub deadline: u32,
+        pub source: u8,
+        pub length: u8,
     }
 
     #[repr(C)]
-    pub struct Clocked {
-        pub panel: Record,
-        pub count: usize,
-        pub number: u8,
+    pub struct BundleStep {
+        pub start: usize,
+        pub length: usize,
+        pub next: usize,
+        pub kind: u8,
     }
 
     /// Asserts the size of a struct and the place of each of its fields.
@@ -86,17 +75,30 @@ mod archive {
         };
     }
 
-    layout!(Record, 10424, own 0, time 4, high 8, count 16, marks 24, barrier 280, slots 536);
-    layout!(Fresh, 10432, panel 0, number 10424);
-    layout!(Sent, 10448, panel 0, count 10424, length 10432, number 10440);
-    layout!(Received, 10440, panel 0, count 10424, number 10432);
-    layout!(Clocked, 10440, panel 0, count 10424, number 10432);
+    layout!(Answer, 24, count 0, length 8, number 16);
+    layout!(LogFields, 8, deadline 0, source 4, length 5);
+    layout!(BundleStep, 32, start 0, length 8, next 16, kind 24);
 
     #[link(name = "panel", kind = "static")]
     extern "C" {
-        pub fn panel_fresh(own: u8) -> Fresh;
-        pub fn panel_send(
-            panel: Record,
+        pub fn panel_fresh_parts(
+            number: u8,
+            own: &mut u8,
+            time: &mut u32,
+            high: &mut u32,
+            count: &mut usize,
+            marks: &mut [u32; PANELS],
+            barrier: &mut [u32; PANELS],
+            slots: &mut [u8; SLOTS],
+        ) -> u8;
+        pub fn panel_send_parts(
+            own: u8,
+            time: u32,
+            high: &mut u32,
+            count: &mut usize,
+            marks: &mut [u32; PANELS],
+            barrier: &mut [u32; PANELS],
+            slots: &mut [u8; SLOTS],
             payload: *const u8,
             payload_length: usize,
             lifetime: u16,
@@ -104,25 +106,35 @@ mod archive {
             output_length: usize,
             frame: *mut u8,
             frame_length: usize,
-        ) -> Sent;
-        pub fn panel_receive(
-            panel: Record,
+        ) -> Answer;
+        pub fn panel_receive_parts(
+            own: u8,
+            time: u32,
+            high: &mut u32,
+            count: &mut usize,
+            marks: &mut [u32; PANELS],
+            barrier: &mut [u32; PANELS],
+            slots: &mut [u8; SLOTS],
             frame: *const u8,
             frame_length: usize,
             output: *mut u8,
             output_length: usize,
-        ) -> Received;
-        pub fn panel_clock(
-            panel: Record,
-            time: u32,
+        ) -> Answer;
+        pub fn panel_clock_parts(
+            own: u8,
+            time: &mut u32,
+            high: &mut u32,
+            count: &mut usize,
+            marks: &mut [u32; PANELS],
+            barrier: &mut [u32; PANELS],
+            slots: &mut [u8; SLOTS],
+            reading: u32,
             output: *mut u8,
             output_length: usize,
-        ) -> Clocked;
-    }
-
-    #[link(name = "frame", kind = "static")]
-    extern "C" {
+        ) -> Answer;
         pub fn frame_check(frame: *const u8, length: usize) -> u8;
+        pub fn panel_log_fields(log: *const u8, length: usize, index: usize) -> LogFields;
+        pub fn panel_bundle_step(bundle: *const u8, length: usize, place: usize) -> BundleStep;
     }
 }
 
@@ -216,7 +228,7 @@ impl fmt::Display for Refusal {
 
 impl core::error::Error for Refusal {}
 
-/// The number of an answer: 0, or that of a refusal. The archives answer no other.
+/// The number of an answer: 0, or that of a refusal. The archive answers no other.
 fn accepted(number: u8) -> Result<(), Refusal> {
     if number == 0 {
         return Ok(());
@@ -234,6 +246,15 @@ fn accepted(number: u8) -> Result<(), Refusal> {
 pub struct Frame {
     bytes: [u8; FRAME_MAX],
     length: usize,
+}
+
+impl Frame {
+    fn new() -> Frame {
+        Frame {
+            bytes: [0; FRAME_MAX],
+            length: 0,
+        }
+    }
 }
 
 impl Deref for Frame {
@@ -258,12 +279,14 @@ impl Log {
         }
     }
 
+    /// Their bytes, 38 for each, to be kept. `log_records` reads them.
+    pub fn bytes(&self) -> &[u8] {
+        &self.bytes[..self.count * LOG_RECORD]
+    }
+
     /// The log records in the order of handing.
-    pub fn records(&self) -> impl Iterator<Item = LogRecord> + '_ {
-        self.bytes
-            .chunks_exact(LOG_RECORD)
-            .take(self.count)
-            .map(LogRecord::new)
+    pub fn records(&self) -> LogRecords<'_> {
+        log_records(self.bytes())
     }
 
     pub fn len(&self) -> usize {
@@ -276,60 +299,166 @@ impl Log {
 }
 
 /// One log record.
-#[derive(Clone, Copy)]
-pub struct LogRecord {
-    bytes: [u8; LOG_RECORD],
+#[derive(Clone, Copy, Debug, PartialEq, Eq)]
+pub struct LogRecord<'a> {
+    pub source: u8,
+    pub deadline: u32,
+    pub payload: &'a [u8],
 }
 
-impl LogRecord {
-    fn new(part: &[u8]) -> LogRecord {
-        let mut bytes = [0; LOG_RECORD];
-        bytes.copy_from_slice(part);
-        LogRecord { bytes }
+/// The log record of that index in the bytes of a log; none if no whole record has that index, or
+/// if its bytes are none that a call wrote.
+pub fn log_record(log: &[u8], index: usize) -> Option<LogRecord<'_>> {
+    // SAFETY: the log is a slice, passed with its length.
+    let fields = unsafe { archive::panel_log_fields(log.as_ptr(), log.len(), index) };
+    if fields.deadline == 0 {
+        return None;
     }
+    let start = index * LOG_RECORD + LOG_PAYLOAD_AT;
+    Some(LogRecord {
+        source: fields.source,
+        deadline: fields.deadline,
+        payload: &log[start..start + usize::from(fields.length)],
+    })
+}
 
-    pub fn source(&self) -> u8 {
-        self.bytes[0]
-    }
+/// The log records in the bytes of a log, up to the first place where there is none.
+pub fn log_records(log: &[u8]) -> LogRecords<'_> {
+    LogRecords { log, index: 0 }
+}
 
-    pub fn deadline(&self) -> u32 {
-        u32::from_be_bytes([self.bytes[1], self.bytes[2], self.bytes[3], self.bytes[4]])
-    }
+/// The log records of a log, one after another.
+#[derive(Clone)]
+pub struct LogRecords<'a> {
+    log: &'a [u8],
+    index: usize,
+}
 
-    pub fn payload(&self) -> &[u8] {
-        &self.bytes[6..6 + usize::from(self.bytes[5])]
+impl<'a> Iterator for LogRecords<'a> {
+    type Item = LogRecord<'a>;
+
+    fn next(&mut self) -> Option<LogRecord<'a>> {
+        let record = log_record(self.log, self.index)?;
+        self.index += 1;
+        Some(record)
     }
 }
 
-/// A panel: the record that its last call gave back.
+impl FusedIterator for LogRecords<'_> {}
+
+/// The frames of a bundle, one after another. The last item is an error if the bundle is broken.
+#[derive(Clone)]
+pub struct Bundle<'a> {
+    bytes: &'a [u8],
+    place: usize,
+    broken: bool,
+}
+
+impl<'a> Bundle<'a> {
+    /// A reader at the start of a bundle.
+    pub fn new(bytes: &'a [u8]) -> Bundle<'a> {
+        Bundle {
+            bytes,
+            place: 0,
+            broken: false,
+        }
+    }
+}
+
+impl<'a> Iterator for Bundle<'a> {
+    type Item = Result<&'a [u8], BundleBroken>;
+
+    fn next(&mut self) -> Option<Result<&'a [u8], BundleBroken>> {
+        if self.broken {
+            return None;
+        }
+        // SAFETY: the bundle is a slice, passed with its length.
+        let step = unsafe {
+            archive::panel_bundle_step(self.bytes.as_ptr(), self.bytes.len(), self.place)
+        };
+        match step.kind {
+            0 => {
+                self.place = step.next;
+                Some(Ok(&self.bytes[step.start..step.start + step.length]))
+            }
+            1 => None,
+            _ => {
+                self.broken = true;
+                Some(Err(BundleBroken))
+            }
+        }
+    }
+}
+
+impl FusedIterator for Bundle<'_> {}
+
+/// A bundle has fewer bytes left than a length or its frame needs.
+#[derive(Clone, Copy, Debug, PartialEq, Eq)]
+pub struct BundleBroken;
+
+impl fmt::Display for BundleBroken {
+    fn fmt(&self, formatter: &mut fmt::Formatter<'_>) -> fmt::Result {
+        formatter.write_str("the bundle is broken")
+    }
+}
+
+impl core::error::Error for BundleBroken {}
+
+/// A panel: its record, as the last call left it.
 pub struct Panel {
-    record: archive::Record,
+    own: u8,
+    time: u32,
+    high: u32,
+    count: usize,
+    marks: [u32; PANELS],
+    barrier: [u32; PANELS],
+    slots: [u8; SLOTS],
 }
 
 impl Panel {
     /// A fresh panel of that number.
-    pub fn fresh(own: u8) -> Result<Panel, Refusal> {
-        // SAFETY: the call asks for nothing.
-        let answer = unsafe { archive::panel_fresh(own) };
-        accepted(answer.number)?;
-        Ok(Panel {
-            record: answer.panel,
-        })
+    pub fn fresh(number: u8) -> Result<Panel, Refusal> {
+        let mut panel = Panel {
+            own: 0,
+            time: 0,
+            high: 0,
+            count: 0,
+            marks: [0; PANELS],
+            barrier: [0; PANELS],
+            slots: [0; SLOTS],
+        };
+        // SAFETY: all that is lent are fields of one record.
+        accepted(unsafe {
+            archive::panel_fresh_parts(
+                number,
+                &mut panel.own,
+                &mut panel.time,
+                &mut panel.high,
+                &mut panel.count,
+                &mut panel.marks,
+                &mut panel.barrier,
+                &mut panel.slots,
+            )
+        })?;
+        Ok(panel)
     }
 
     /// Sends a payload of at most 32 bytes; a lifetime of 0 means 1,200 seconds. The first of the
     /// log records is that of the message sent.
     pub fn send(&mut self, payload: &[u8], lifetime: u16) -> Result<(Frame, Log), Refusal> {
-        let mut frame = Frame {
-            bytes: [0; FRAME_MAX],
-            length: 0,
-        };
+        let mut frame = Frame::new();
         let mut log = Log::new();
         // SAFETY: the payload is a slice, output and frame buffer are arrays of this function; all
-        // are passed with their lengths, and none overlaps another.
+        // are passed with their lengths, and none overlaps another or the record.
         let answer = unsafe {
-            archive::panel_send(
-                self.record,
+            archive::panel_send_parts(
+                self.own,
+                self.time,
+                &mut self.high,
+                &mut self.count,
+                &mut self.marks,
+                &mut self.barrier,
+                &mut self.slots,
                 payload.as_ptr(),
                 payload.len(),
                 lifetime,
@@ -340,7 +469,6 @@ impl Panel {
             )
         };
         accepted(answer.number)?;
-        self.record = answer.panel;
         frame.length = answer.length;
         log.count = answer.count;
         Ok((frame, log))
@@ -350,10 +478,16 @@ impl Panel {
     pub fn receive(&mut self, frame: &[u8]) -> Result<Log, Refusal> {
         let mut log = Log::new();
         // SAFETY: the frame is a slice, the output an array of this function; both are passed with
-        // their lengths, and do not overlap.
+        // their lengths, and neither overlaps the other or the record.
         let answer = unsafe {
-            archive::panel_receive(
-                self.record,
+            archive::panel_receive_parts(
+                self.own,
+                self.time,
+                &mut self.high,
+                &mut self.count,
+                &mut self.marks,
+                &mut self.barrier,
+                &mut self.slots,
                 frame.as_ptr(),
                 frame.len(),
                 log.bytes.as_mut_ptr(),
@@ -361,7 +495,6 @@ impl Panel {
             )
         };
         accepted(answer.number)?;
-        self.record = answer.panel;
         log.count = answer.count;
         Ok(log)
     }
@@ -371,27 +504,37 @@ impl Panel {
         let mut log = Log::new();
         // SAFETY: the output is an array of this function, passed with its length.
         let answer = unsafe {
-            archive::panel_clock(self.record, time, log.bytes.as_mut_ptr(), log.bytes.len())
+            archive::panel_clock_parts(
+                self.own,
+                &mut self.time,
+                &mut self.high,
+                &mut self.count,
+                &mut self.marks,
+                &mut self.barrier,
+                &mut self.slots,
+                time,
+                log.bytes.as_mut_ptr(),
+                log.bytes.len(),
+            )
         };
         accepted(answer.number)?;
-        self.record = answer.panel;
         log.count = answer.count;
         Ok(log)
     }
 
     /// The own number.
     pub fn own(&self) -> u8 {
-        self.record.own
+        self.own
     }
 
     /// The last clock reading that was accepted, at first 0.
     pub fn time(&self) -> u32 {
-        self.record.time
+        self.time
     }
 
     /// How many messages are waiting.
     pub fn waiting(&self) -> usize {
-        self.record.count
+        self.count
     }
 }
 

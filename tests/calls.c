@@ -493,6 +493,29 @@ static const Step settling[] = {
      .record = {.high = 65535, .marks = {{10, 65535}}, .barrier = {{10, 65535}}}},
 };
 
+/* Marks tell what is ready and what was had; the barrier, which a send empties, does not. */
+#define FROM_9_DUE_500_AFTER_1_AND_4 \
+    "445259 0001 09 000001f4 0000000000000012 00000064 00000032 00"
+
+static const Step after_a_send[] = {
+    {__LINE__, RECEIVE, .at = 2, .bytes = CHAIN_1, .log = {"01 00000064 01 61"},
+     .record = {.high = 100, .marks = {{1, 100}}, .barrier = {{1, 100}}}},
+    {__LINE__, SEND, .at = 2, .bytes = "", .value = 1000,
+     .frame = "445259 0001 02 000003e8 0000000000000002 00000064 00",
+     .log = {"02 000003e8 00"},
+     .record = {.high = 1000, .marks = {{1, 100}, {2, 1000}}, .barrier = {{2, 1000}}}},
+    {__LINE__, RECEIVE, .at = 2, .bytes = CHAIN_1, .number = PANEL_REFUSED_HAD_ALREADY},
+    {__LINE__, RECEIVE, .at = 2, .bytes = FROM_5_DUE_200_AFTER_1, .log = {"05 000000c8 00"},
+     .record = {.high = 1000, .marks = {{1, 100}, {2, 1000}, {5, 200}},
+                .barrier = {{2, 1000}, {5, 200}}}},
+    {__LINE__, RECEIVE, .at = 2, .bytes = FROM_9_DUE_500_AFTER_1_AND_4,
+     .record = {.high = 1000, .marks = {{1, 100}, {2, 1000}, {5, 200}},
+                .barrier = {{2, 1000}, {5, 200}}, .waiting = {FROM_9_DUE_500_AFTER_1_AND_4}}},
+    {__LINE__, CLOCK, .at = 2, .value = 51, .log = {"09 000001f4 00"},
+     .record = {.time = 51, .high = 1000, .marks = {{1, 100}, {2, 1000}, {5, 200}, {9, 500}},
+                .barrier = {{2, 1000}, {5, 200}, {9, 500}}}},
+};
+
 /* ---- Refusals ---- */
 
 /* The orders: in each row what the rows behind it are refused for applies too, as far as it can. */
@@ -870,6 +893,7 @@ void test_calls(void)
     RUN("case 10", case_10);
     RUN("case 11", case_11);
     RUN("settling", settling);
+    RUN("after a send", after_a_send);
     RUN("order of send", send_order);
     RUN("order of clock", clock_order);
     RUN("order of receive", receive_order);

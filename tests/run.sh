@@ -1,6 +1,6 @@
 #!/bin/sh
-# run.sh: installs the module to target/install, and tests what is installed there from C and C++,
-# with each compiler that is there. CC and CXX choose others, as in CC="gcc-13 clang-17".
+# run.sh: installs the module to target/install, and tests what is installed there from C, C++ and
+# Rust, with each compiler that is there. CC and CXX choose others, as in CC="gcc-13 clang-17".
 set -eu
 cd "$(dirname "$0")/.."
 to=$PWD/target/install
@@ -74,6 +74,18 @@ test_cxx() {
     $built/tests_cxx
 }
 
+test_rust() {
+    rustc --edition 2021 -O -D warnings --crate-type rlib -L native="$to/lib" --out-dir $built \
+        "$to/share/panel/panel.rs"
+    with_panel="--edition 2021 -D warnings --extern panel=$built/libpanel.rlib"
+    rustc $with_panel -o $built/tests_rust tests/calls.rs
+    $built/tests_rust
+    if rustc $with_panel -o $built/copied tests/copied.rs 2>$built/log; then
+        fail "a Panel of the wrapper for Rust can be copied"
+    fi
+    grep -q E0507 $built/log || fail "rustc turns tests/copied.rs down otherwise: $(cat $built/log)"
+}
+
 mkdir -p $built
 install_module
 tested=
@@ -88,4 +100,8 @@ for cxx in ${CXX:-g++ clang++}; do
     test_cxx "$cxx"
     tested="$tested $cxx"
 done
+if there rustc; then
+    test_rust
+    tested="$tested rustc"
+fi
 echo "tests: passed with$tested"

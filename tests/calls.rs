@@ -1,0 +1,143 @@
+//! The wrapper for Rust: each call and each reader, and what they refuse. main.c and its files test
+//! the calls in full.
+#![forbid(unsafe_code)]
+
+use panel::{
+    frame_check, log_record, log_records, Bundle, BundleBroken, LogRecord, Panel, Refusal,
+    LOG_RECORD,
+};
+
+/// The records of a call that was accepted: source, deadline and payload of each.
+fn records(log: &panel::Log) -> Vec<(u8, u32, &[u8])> {
+    assert_eq!(log.len(), log.records().count());
+    assert_eq!(log.is_empty(), log.records().count() == 0);
+    log.records()
+        .map(|record| (record.source, record.deadline, record.payload))
+        .collect()
+}
+
+/// A frame without payload.
+fn frame(source: u8, deadline: u32, mask: u64, entries: &[u32]) -> Vec<u8> {
+    let mut bytes = vec![0x44, 0x52, 0x59, 0, 1, source];
+    bytes.extend(deadline.to_be_bytes());
+    bytes.extend(mask.to_be_bytes());
+    for entry in entries {
+        bytes.extend(entry.to_be_bytes());
+    }
+    bytes.push(0);
+    bytes
+}
+
+/// Bench cases 1 and 2.
+fn sends() -> Result<(), Refusal> {
+    let mut three = Panel::fresh(3)?;
+    assert!(three.clock(100)?.is_empty());
+    let (sent, log) = three.send(b"OK", 0)?;
+    assert_eq!(sent[..10], [0x44, 0x52, 0x59, 0, 1, 3, 0, 0, 5, 0x14]);
+    assert_eq!(sent[10..], *b"\0\0\0\0\0\0\0\0\x02OK");
+    assert_eq!(records(&log), [(3, 1300, &b"OK"[..])]);
+    let (sent, log) = three.send(b"", 0)?;
+    assert_eq!(sent[..], frame(3, 1301, 8, &[1300]));
+    assert_eq!(records(&log), [(3, 1301, &b""[..])]);
+    assert_eq!((three.own(), three.time(), three.waiting()), (3, 100, 0));
+    Ok(())
+}
+
+/// Marks tell what is ready and what was had; the barrier, which a send empties, does not.
+fn receives() -> Result<(), Refusal> {
+    let mut two = Panel::fresh(2)?;
+    let first = frame(1, 100, 0, &[]);
+    assert_eq!(records(&two.receive(&first)?), [(1, 100, &b""[..])]);
+    assert_eq!(two.send(b"", 1000)?.0[..], frame(2, 1000, 2, &[100]));
+    assert_eq!(two.receive(&first).err(), Some(Refusal::HadAlready));
+    let log = two.receive(&frame(5, 200, 2, &[100]))?;
+    assert_eq!(records(&log), [(5, 200, &b""[..])]);
+    assert!(two.receive(&frame(9, 500, 0x12, &[100, 50]))?.is_empty());
+    assert_eq!(two.waiting(), 1);
+    assert_eq!(records(&two.clock(51)?), [(9, 500, &b""[..])]);
+    assert_eq!((two.time(), two.waiting()), (51, 0));
+    let (sent, _) = two.send(b"", 0)?;
+    assert_eq!(
+        sent[..],
+        frame(2, 1251, 1 << 2 | 1 << 5 | 1 << 9, &[1000, 200, 500])
+    );
+    Ok(())
+}
+
+fn refusals() -> Result<(), Refusal> {
+    let mut three = Panel::fresh(3)?;
+    assert_eq!(Panel::fresh(64).err(), Some(Refusal::PanelNumber));
+    assert_eq!(three.send(&[0; 33], 0).err(), Some(Refusal::PayloadLong));
+    assert_eq!(three.receive(&[]).err(), Some(Refusal::FrameShort));
+    let own = frame(3, 9, 0, &[]);
+    assert_eq!(three.receive(&own).err(), Some(Refusal::OwnSource));
+    three.clock(u32::MAX)?;
+    assert_eq!(three.clock(0).err(), Some(Refusal::ClockBack));
+    assert_eq!(three.send(b"", 0).err(), Some(Refusal::DeadlineTooHigh));
+    let late = frame(4, 9, 0, &[]);
+    assert_eq!(three.receive(&late).err(), Some(Refusal::Lapsed));
+    assert_eq!(frame_check(&late), Ok(()));
+    assert_eq!(frame_check(&late[1..]), Err(Refusal::FrameShort));
+    assert_eq!(
+        frame_check(&frame(64, 9, 0, &[])),
+        Err(Refusal::FrameSource)
+    );
+    Ok(())
+}
+
+/// 32 wait for a message of panel 1; the 33rd is refused, and then all are handed by one call.
+fn full_list() -> Result<(), Refusal> {
+    let mut seven = Panel::fresh(7)?;
+    for deadline in 100..132 {
+        assert!(seven.receive(&frame(2, deadline, 2, &[50]))?.is_empty());
+    }
+    let one_more = frame(2, 132, 2, &[50]);
+    assert_eq!(seven.receive(&one_more).err(), Some(Refusal::ListFull));
+    let log = seven.receive(&frame(1, 50, 0, &[]))?;
+    let deadlines: Vec<u32> = log.records().map(|record| record.deadline).collect();
+    let expected: Vec<u32> = std::iter::once(50).chain(100..132).collect();
+    assert_eq!(deadlines, expected);
+    assert_eq!(log.bytes().len(), 33 * LOG_RECORD);
+    Ok(())
+}
+
+fn logs() {
+    let mut log = [0; 2 * LOG_RECORD];
+    log[..8].copy_from_slice(b"\x03\0\0\x05\x14\x02OK");
+    log[LOG_RECORD..LOG_RECORD + 6].copy_from_slice(b"\x04\0\0\x05\x15\0");
+    let first = LogRecord {
+        source: 3,
+        deadline: 1300,
+        payload: b"OK",
+    };
+    assert_eq!(log_record(&log, 0), Some(first));
+    assert_eq!(log_record(&log, 2), None);
+    assert_eq!(log_record(&log, usize::MAX), None);
+    assert_eq!(log_records(&log).count(), 2);
+    assert_eq!(log_records(&log[..2 * LOG_RECORD - 1]).count(), 1);
+    assert_eq!(log_records(&[]).count(), 0);
+    log[LOG_RECORD + 5] = 33;
+    assert_eq!(log_records(&log).count(), 1);
+}
+
+/// A broken bundle gives an error once, and nothing after it.
+fn bundles() {
+    let frames = |bytes: &'static [u8]| Bundle::new(bytes).collect::<Vec<_>>();
+    assert_eq!(frames(b""), []);
+    assert_eq!(frames(b"\0"), [Err(BundleBroken)]);
+    assert_eq!(frames(b"\0\x01a\0\0"), [Ok(&b"a"[..]), Ok(&b""[..])]);
+    assert_eq!(
+        frames(b"\0\x01a\0\x02b"),
+        [Ok(&b"a"[..]), Err(BundleBroken)]
+    );
+}
+
+fn main() -> Result<(), Refusal> {
+    sends()?;
+    receives()?;
+    refusals()?;
+    full_list()?;
+    logs();
+    bundles();
+    Ok(())
+}

@@ -85,7 +85,7 @@ extern "C" {
 
 /* ---- Sizes ---- */
 
-/* The stack that a call needs, at most. */
+/* The stack that a call takes, at most; tests/stack.c measures it. */
 #define PANEL_STACK_BYTES 8192
 
 enum {

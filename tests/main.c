@@ -1,7 +1,7 @@
 /*
  * Tests the module as a C program sees it: calls.c the calls, readers.c the readers of logs and
- * bundles, the texts and the version. The last line counts the checks. tests/run.sh builds and
- * runs it.
+ * bundles, the texts and the version, stack.c the stack. The last line counts the checks.
+ * tests/run.sh builds and runs it.
  */
 #include "tests.h"
 
@@ -84,6 +84,7 @@ int main(void)
 {
     test_calls();
     test_readers();
+    test_stack();
     printf("%lu checks, %lu failed\n", checks, failed);
     return failed == 0 ? EXIT_SUCCESS : EXIT_FAILURE;
 }

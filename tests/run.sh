@@ -59,8 +59,8 @@ must_warn() {
 
 # The whole archive is linked, so that two objects with one name would be seen.
 test_c() {
-    $1 -O2 -std=c11 $warnings $flags -o $built/tests tests/calls.c tests/readers.c tests/main.c \
-        -Wl,--whole-archive $libs -Wl,--no-whole-archive
+    $1 -O2 -std=c11 $warnings $flags -o $built/tests tests/main.c tests/calls.c tests/readers.c \
+        tests/stack.c -Wl,--whole-archive $libs -Wl,--no-whole-archive
     $built/tests
     example "$1"
     $1 -O2 -std=c11 $warnings -Wswitch-enum $flags -c -o $built/warnings.o tests/warnings.c

@@ -1,4 +1,4 @@
-/* What the tests of the calls and of the readers share. */
+/* What the tests share. */
 #ifndef TESTS_H
 #define TESTS_H
 
@@ -38,5 +38,6 @@ void paint(uint8_t *bytes, size_t length);
 /* The tests. */
 void test_calls(void);
 void test_readers(void);
+void test_stack(void);
 
 #endif

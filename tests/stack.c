@@ -1,0 +1,95 @@
+/*
+ * How much stack the calls take: each works on a full list and hands it whole, on a stack of its
+ * own that was painted before.
+ */
+#define _XOPEN_SOURCE 600 /* for ucontext.h */
+#include "panel.h"
+#include "tests.h"
+
+#include <stdio.h>
+#include <ucontext.h>
+
+static uint8_t stack[8 * PANEL_STACK_BYTES], untouched[sizeof stack];
+static uint8_t output[PANEL_OUTPUT_MIN], buffer[PANEL_FRAME_MAX];
+static ucontext_t caller, callee;
+static Panel panel;
+static PanelAnswer answer;
+
+/* Panel 7 takes 32 messages of panel 2, deadlines from 2000 on, which wait for a message of a
+   panel from 0 to 7, with its deadline. */
+static void fill(unsigned source, uint32_t deadline)
+{
+    uint8_t frame[PANEL_FRAME_MAX];
+    char text[64];
+
+    same_number(__LINE__, "number", panel_fresh(&panel, 7), PANEL_ACCEPTED);
+    for (unsigned i = 0; i < PANEL_WAITING_MAX; i++) {
+        snprintf(text, sizeof text, "445259 0001 02 %08x %016x %08x 00", 2000 + i, 1u << source,
+                 deadline);
+        size_t length = put_bytes(frame, text);
+        answer = panel_receive(&panel, frame, length, output, sizeof output);
+        same_number(__LINE__, "number", answer.number, PANEL_ACCEPTED);
+    }
+}
+
+/* The own message has deadline 1200. */
+static void make_send(void)
+{
+    answer = panel_send(&panel, buffer, 0, 0, output, sizeof output, buffer, sizeof buffer);
+}
+
+static void make_receive(void)
+{
+    uint8_t frame[PANEL_FRAME_MIN];
+    size_t length = put_bytes(frame, "445259 0001 01 00000064 0000000000000000 00");
+    answer = panel_receive(&panel, frame, length, output, sizeof output);
+}
+
+static void make_clock(void)
+{
+    answer = panel_clock(&panel, 101, output, sizeof output);
+}
+
+/* Runs a function on the painted stack. */
+static void run(void (*function)(void))
+{
+    paint(stack, sizeof stack);
+    getcontext(&callee);
+    callee.uc_stack.ss_sp = stack;
+    callee.uc_stack.ss_size = sizeof stack;
+    callee.uc_link = &caller;
+    makecontext(&callee, function, 0);
+    swapcontext(&caller, &callee);
+}
+
+/* The bytes from the lowest that was written to the upper end. */
+static size_t taken(void)
+{
+    size_t left = 0;
+
+    paint(untouched, sizeof untouched);
+    while (left < sizeof stack && stack[left] == untouched[left])
+        left++;
+    return sizeof stack - left;
+}
+
+/* What a call takes, with the function that makes it. */
+static void check_stack(int line, void (*make)(void), size_t count)
+{
+    run(make);
+    same_number(line, "number", answer.number, PANEL_ACCEPTED);
+    same_number(line, "count of log records", answer.count, count);
+    if (fails(taken() <= PANEL_STACK_BYTES, __FILE__, line, "stack"))
+        printf(" is %zu bytes, expected at most %d\n", taken(), PANEL_STACK_BYTES);
+}
+
+void test_stack(void)
+{
+    part = "stack";
+    fill(7, 1200);
+    check_stack(__LINE__, make_send, PANEL_WAITING_MAX + 1);
+    fill(1, 100);
+    check_stack(__LINE__, make_receive, PANEL_WAITING_MAX + 1);
+    fill(1, 100);
+    check_stack(__LINE__, make_clock, PANEL_WAITING_MAX);
+}

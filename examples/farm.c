@@ -162,10 +162,31 @@ static void print_log(const Member *member)
     }
 }
 
+/* A tractor cab brings two messages of a panel to another, the later one first. */
+static void by_cab(Member *from, Member *to)
+{
+    Cab cab = {.length = 0};
+
+    Parcel full = send_text(from, "bin 4 full");
+    Parcel emptied = send_text(from, "bin 4 emptied");
+    take_along(&cab, &emptied);
+    take_along(&cab, &full);
+    receive_bundle(to, &cab);
+}
+
+/* Two messages lapse: one while it waits for the other, which then comes too late. */
+static void too_late(Member *from, Member *to)
+{
+    Parcel fan_on = send_text(from, "fan 2 on");
+    Parcel fan_off = send_text(from, "fan 2 off");
+    receive(to, &fan_off);
+    set_clock(to, 1500);
+    receive(to, &fan_on);
+}
+
 int main(void)
 {
     static Member three, five, nine;
-    static Cab cab;
 
     /* no common clock */
     start(&three, 3, 100);
@@ -187,19 +208,8 @@ int main(void)
     receive(&nine, &hold);
     receive(&nine, &hold);
 
-    /* a tractor cab brings two in a bundle, the later one first */
-    Parcel full = send_text(&five, "bin 4 full");
-    Parcel emptied = send_text(&five, "bin 4 emptied");
-    take_along(&cab, &emptied);
-    take_along(&cab, &full);
-    receive_bundle(&nine, &cab);
-
-    /* two that lapse: one while it waits for the other, which then comes too late */
-    Parcel fan_on = send_text(&three, "fan 2 on");
-    Parcel fan_off = send_text(&three, "fan 2 off");
-    receive(&nine, &fan_off);
-    set_clock(&nine, 1500);
-    receive(&nine, &fan_on);
+    by_cab(&five, &nine);
+    too_late(&three, &nine);
 
     print_log(&three);
     print_log(&five);

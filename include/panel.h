@@ -44,9 +44,9 @@
  * - While a call runs, nobody else writes its record or uses its buffers.
  * - PANEL_STACK_BYTES of stack are free.
  *
- * No call allocates, blocks, keeps a pointer or has state of its own: calls on different records
- * may run at the same time. Calls on one record go one after another. The archive needs memcpy and
- * memset, and nothing else.
+ * No call allocates, blocks or has state of its own, and only panel_bundle keeps a pointer: calls
+ * on different records may run at the same time. Calls on one record go one after another. The
+ * archive needs memcpy and memset, and nothing else.
  *
  * Storing a record. It is plain data without pointers. It may be copied, or saved as its
  * sizeof(Panel) bytes and read back by the same version of this header. Go on with the record as

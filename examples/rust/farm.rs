@@ -121,6 +121,27 @@ fn take_along(bundle: &mut Vec<u8>, parcel: &Parcel) {
     bundle.extend_from_slice(&parcel.frame);
 }
 
+/// A tractor cab brings two messages of a panel to another, the later one first.
+fn by_cab(from: &mut Member, to: &mut Member) -> Result<(), Refusal> {
+    let full = from.send("bin 4 full")?;
+    let emptied = from.send("bin 4 emptied")?;
+    let mut bundle = Vec::new();
+    take_along(&mut bundle, &emptied);
+    take_along(&mut bundle, &full);
+    to.receive_bundle(&bundle);
+    Ok(())
+}
+
+/// Two messages lapse: one while it waits for the other, which then comes too late.
+fn too_late(from: &mut Member, to: &mut Member) -> Result<(), Refusal> {
+    let fan_on = from.send("fan 2 on")?;
+    let fan_off = from.send("fan 2 off")?;
+    to.receive(&fan_off);
+    to.set_clock(1500)?;
+    to.receive(&fan_on);
+    Ok(())
+}
+
 fn story() -> Result<(), Refusal> {
     // no common clock
     let mut three = Member::start(3, 100)?;
@@ -142,20 +163,8 @@ fn story() -> Result<(), Refusal> {
     nine.receive(&hold);
     nine.receive(&hold);
 
-    // a tractor cab brings two in a bundle, the later one first
-    let full = five.send("bin 4 full")?;
-    let emptied = five.send("bin 4 emptied")?;
-    let mut cab = Vec::new();
-    take_along(&mut cab, &emptied);
-    take_along(&mut cab, &full);
-    nine.receive_bundle(&cab);
-
-    // two that lapse: one while it waits for the other, which then comes too late
-    let fan_on = three.send("fan 2 on")?;
-    let fan_off = three.send("fan 2 off")?;
-    nine.receive(&fan_off);
-    nine.set_clock(1500)?;
-    nine.receive(&fan_on);
+    by_cab(&mut five, &mut nine)?;
+    too_late(&mut three, &mut nine)?;
 
     three.print_log();
     five.print_log();

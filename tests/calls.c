@@ -3,8 +3,8 @@
  * and the order of refusals, and what a call leaves as it was. Frames and log records are written
  * in hexadecimal, from document 01 by hand.
  */
+#include "checks.h"
 #include "panel.h"
-#include "tests.h"
 
 #include <stdio.h>
 #include <string.h>

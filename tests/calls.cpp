@@ -1,4 +1,4 @@
-// The calls from C++: each is made once, and what it gives is checked. main.c and its files check
+// The calls from C++: each is made once, and what it gives is checked. calls.c and readers.c test
 // the calls in full.
 #include "panel.h"
 

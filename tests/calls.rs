@@ -1,4 +1,4 @@
-//! The wrapper for Rust: each call and each reader, and what they refuse. main.c and its files test
+//! The wrapper for Rust: each call and each reader, and what they refuse. calls.c and readers.c test
 //! the calls in full.
 #![forbid(unsafe_code)]
 

@@ -1,6 +1,6 @@
 /* The readers of logs and bundles as a C program sees them, the texts and the version. */
+#include "checks.h"
 #include "panel.h"
-#include "tests.h"
 
 #include <stdio.h>
 #include <string.h>

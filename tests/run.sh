@@ -60,8 +60,10 @@ must_warn() {
 # The whole archive is linked, so that two objects with one name would be seen.
 test_c() {
     $1 -O2 -std=c11 $warnings $flags -o $built/tests tests/main.c tests/calls.c tests/readers.c \
-        tests/stack.c -Wl,--whole-archive $libs -Wl,--no-whole-archive
+        tests/checks.c -Wl,--whole-archive $libs -Wl,--no-whole-archive
     $built/tests
+    $1 -O2 -std=c11 $warnings $flags -o $built/stack tests/stack.c tests/checks.c $libs
+    $built/stack
     example "$1"
     $1 -O2 -std=c11 $warnings -Wswitch-enum $flags -c -o $built/warnings.o tests/warnings.c
     must_warn "$1" CASE_LEFT_OUT PANEL_REFUSED_LIST_FULL

@@ -1,10 +1,10 @@
 /*
  * How much stack the calls take: each works on a full list and hands it whole, on a stack of its
- * own that was painted before.
+ * own that was painted before. A program of its own, as valgrind can't follow the change of stack.
  */
 #define _XOPEN_SOURCE 600 /* for ucontext.h */
+#include "checks.h"
 #include "panel.h"
-#include "tests.h"
 
 #include <stdio.h>
 #include <ucontext.h>
@@ -83,7 +83,7 @@ static void check_stack(int line, void (*make)(void), size_t count)
         printf(" is %zu bytes, expected at most %d\n", taken(), PANEL_STACK_BYTES);
 }
 
-void test_stack(void)
+int main(void)
 {
     part = "stack";
     fill(7, 1200);
@@ -92,4 +92,5 @@ void test_stack(void)
     check_stack(__LINE__, make_receive, PANEL_WAITING_MAX + 1);
     fill(1, 100);
     check_stack(__LINE__, make_clock, PANEL_WAITING_MAX);
+    return checked();
 }

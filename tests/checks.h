@@ -1,6 +1,6 @@
-/* What the tests share. */
-#ifndef TESTS_H
-#define TESTS_H
+/* What the tests in C share. */
+#ifndef CHECKS_H
+#define CHECKS_H
 
 #include <stdbool.h>
 #include <stddef.h>
@@ -35,9 +35,11 @@ void free_copy(uint8_t *copy);
 /* Fills bytes with a content that shows their place. */
 void paint(uint8_t *bytes, size_t length);
 
-/* The tests. */
+/* Prints how many checks there were, and gives what main is to return. */
+int checked(void);
+
+/* The tests of calls.c and readers.c. */
 void test_calls(void);
 void test_readers(void);
-void test_stack(void);
 
 #endif

@@ -1,5 +1,5 @@
-//! The wrapper for Rust: each call and each reader, and what they refuse. calls.c and readers.c test
-//! the calls in full.
+//! The wrapper for Rust: each call and each reader, and what they refuse. calls.c and readers.c
+//! test the calls in full.
 #![forbid(unsafe_code)]
 
 use panel::{

@@ -1,12 +1,12 @@
 -- Laws of `broken`, test by test. Assumes nothing.
-use mathlib.Core.Path.{_≡_}
-use mathlib.Core.Bool.{true, false, not, or-true}
-use mathlib.Core.List.{List}
-use Prim.Native.Nat.{ℕ, zero, suc, _+_, _-_, _≤_, _<_}
-use native.Mathlib.Numerals.{sub-one}
-use native.Mathlib.Omega.{arith}
-use lib.ListN.{length, getD, drop}
-use lib.Seq.{drop-cons}
+use mathlib.Core.Path.{_≡_, sym, ap, _∙_}
+use mathlib.Core.Bool.{Bool, true, false, not, _&&_, or-true, and-true, and-assoc}
+use mathlib.Core.List.{List, [], _∷_, _++_}
+use Prim.Native.Nat.{ℕ, _+_, _≤_, _<_}
+use native.Mathlib.Numerals.{add-one}
+use lib.Dec.{ltb}
+use lib.ListN.{length, getD, take}
+use lib.Seq.{take-suc}
 use borrow.Author.Tests.{lt-ltb, le-ltb}
 use Rattle.frame.specs.Readable.{eachBelow}
 use Rattle.rules.specs.Panel.{Panel}
@@ -35,9 +35,14 @@ module _ (p : Panel) where
   unfolding broken
   broken-waiting own marks barrier count = simp (le-ltb 63 (p .own) own, marks, barrier, le-ltb 32 (length (p .waiting)) count)
 
--- ---- a number above the limit, to a loop that goes down
+-- ---- the first numbers of a list, and one more
 
-pub eachBelow-stop : (limit : ℕ) (ns : List ℕ) (i : ℕ) → 0 < i → i ≤ length ns → limit ≤ getD ns (i - 1) 0 → eachBelow limit (drop (i - 1) ns) ≡ false
+eachBelow-snoc : (limit : ℕ) (ns : List ℕ) (n : ℕ) → eachBelow limit (ns ++ (n ∷ [])) ≡ (eachBelow limit ns && ltb n limit)
 unfolding eachBelow
-eachBelow-stop limit ns zero pos l h = absurd (omega arith)
-eachBelow-stop limit ns (suc i) pos l h = rw (sub-one, drop-cons ns i 0 l) (simp (le-ltb (getD ns i 0) limit (rw sub-one at h)))
+eachBelow-snoc limit [] n = and-true (ltb n limit)
+eachBelow-snoc limit (first ∷ ns) n =
+    ap (λ (t : Bool). ltb first limit && t) (eachBelow-snoc limit ns n) ∙ sym (and-assoc (ltb first limit) (eachBelow limit ns) (ltb n limit))
+
+pub eachBelow-more : (limit : ℕ) (ns : List ℕ) (i : ℕ) → i < length ns
+    → eachBelow limit (take (i + 1) ns) ≡ (eachBelow limit (take i ns) && ltb (getD ns i 0) limit)
+eachBelow-more limit ns i l = rw (add-one, take-suc ns i 0 l) (eachBelow-snoc limit (take i ns) (getD ns i 0))

@@ -36,10 +36,11 @@ fn each_at_most(numbers: &[u32], limit: u32) -> bool
     ensures { λ r. ⌜ r ≡ eachBelow (limit + 1) (now (numbers .entry)) ⌝ }
 {
     let mut all = true;
-    let mut i = 64;
-    while 0 < i {
-        i -= 1;
-        if limit < numbers[i] {
+    let mut i = 0;
+    while i < 64 {
+        let number = numbers[i];
+        i += 1;
+        if limit < number {
             all = false;
         }
     }

@@ -1,33 +1,37 @@
--- `parts::each_at_most` meets its contract: the numbers from i on are at most the limit. Assumes nothing.
-use mathlib.Core.Path.{_≡_, sym, ap, _∙_}
+-- `parts::each_at_most` meets its contract: the first i numbers are at most the limit. Assumes nothing.
+use mathlib.Core.Path.{_≡_, refl, sym, ap, _∙_}
+use mathlib.Core.Bool.{and-true, and-false}
+use mathlib.Core.List.{List}
 use Prim.Native.Nat.{ℕ, _+_, _-_, _≤_}
 use borrow.Author.Needs.{needs}
+use borrow.Author.Tests.{lt-ltb, le-ltb}
 use native.Mathlib.Omega.{arith}
 use denote.Ref.{now}
-use lib.ListN.{drop}
+use lib.ListN.{getD, take}
+use lib.Seq.{take-all}
 use Rattle.frame.specs.Readable.{eachBelow}
-use Rattle.frame.proofs.EachNumber.{eachBelow-none, eachBelow-next}
-use Rattle.parts.proofs.Refusing.{eachBelow-stop}
+use Rattle.parts.proofs.Refusing.{eachBelow-more}
 use Rattle.parts.proofs.each_at_most.Statement.{statement}
 use Rattle.parts.proofs.each_at_most.Tie as tie
 
 abbrev Inv-loop : tie.InvT-loop
-Inv-loop numbers limit all₀ i₀ all i = (i ≤ 64) × (all ≡ eachBelow (limit + 1) (drop i numbers))
+Inv-loop numbers limit all₀ i₀ all i = (i ≤ 64) × (all ≡ eachBelow (limit + 1) (take i numbers))
 
 abbrev μ-loop : tie.MeasureT-loop
-μ-loop numbers limit all₀ i₀ all i = i
+μ-loop numbers limit all₀ i₀ all i = 64 - i
 
 loop-holds : tie.Need-loop-holds Inv-loop μ-loop
-loop-holds c = (omega arith, sym (eachBelow-none (c .args .limit + 1) (now (c .args .numbers)) 64 (omega (arith, c .pre))))
+unfolding eachBelow
+loop-holds c = (omega arith, refl)
 
-sub-i : tie.Need-sub-i Inv-loop μ-loop
-sub-i c = search needs
+mul-number : tie.Need-mul-number Inv-loop μ-loop
+mul-number c = search needs
 
-mul-if1 : tie.Need-mul-if1 Inv-loop μ-loop
-mul-if1 c = search needs
+shared-slice-read-number : tie.Need-shared-slice-read-number Inv-loop μ-loop
+shared-slice-read-number c = search needs
 
-shared-slice-read-if1 : tie.Need-shared-slice-read-if1 Inv-loop μ-loop
-shared-slice-read-if1 c = search needs
+add-i : tie.Need-add-i Inv-loop μ-loop
+add-i c = search needs
 
 loop-less : tie.Need-loop-less Inv-loop μ-loop
 loop-less c = search needs
@@ -37,8 +41,9 @@ loop-again c =
     let l = c .before .before .before .loop in
     let s = c .before .before .before .before in
     let a = s .args in
-    let above = eachBelow-stop (a .limit + 1) (now (a .numbers)) (l .i) (omega arith) (omega (arith, s .pre)) (omega (arith, c .if1 .taken)) in
-    (omega arith, sym above)
+    let more = eachBelow-more (a .limit + 1) (now (a .numbers)) (l .i) (omega (arith, s .pre)) in
+    let so-far = eachBelow (a .limit + 1) (take (l .i) (now (a .numbers))) in
+    (omega arith, sym (more ∙ rw (le-ltb (getD (now (a .numbers)) (l .i) 0) (a .limit + 1) (omega (arith, c .if1 .taken))) (and-false so-far)))
 
 loop-less-2 : tie.Need-loop-less-2 Inv-loop μ-loop
 loop-less-2 c = search needs
@@ -48,15 +53,15 @@ loop-again-2 c =
     let l = c .before .before .before .loop in
     let s = c .before .before .before .before in
     let a = s .args in
-    let next = eachBelow-next (a .limit + 1) (now (a .numbers)) (l .i) (omega arith) (omega (arith, s .pre)) (omega (arith, c .if1 .left)) in
-    (omega arith, l .inv .1 ∙ sym next)
+    let more = eachBelow-more (a .limit + 1) (now (a .numbers)) (l .i) (omega (arith, s .pre)) in
+    (omega arith, l .inv .1 ∙ sym (more ∙ rw (lt-ltb (getD (now (a .numbers)) (l .i) 0) (a .limit + 1) (omega (arith, c .if1 .left))) (and-true _)))
 
 returns : tie.Need-returns Inv-loop μ-loop
 returns c =
     let l = c .before .loop in
-    let a = c .before .before .args in
-    let z : l .i ≡ 0 = omega arith in
-    l .inv .1 ∙ ap (λ (n : ℕ). eachBelow (a .limit + 1) (drop n (now (a .numbers)))) z
+    let s = c .before .before in
+    let a = s .args in
+    l .inv .1 ∙ ap (λ (ns : List ℕ). eachBelow (a .limit + 1) ns) (take-all (l .i) (now (a .numbers)) (omega (arith, s .pre)))
 
 pub each-at-most-spec : {M : Type 1} → statement M
 each-at-most-spec =
@@ -65,9 +70,9 @@ each-at-most-spec =
     Inv-loop
     μ-loop
     loop-holds
-    sub-i
-    mul-if1
-    shared-slice-read-if1
+    mul-number
+    shared-slice-read-number
+    add-i
     loop-less
     loop-again
     loop-less-2

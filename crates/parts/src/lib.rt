@@ -69,6 +69,10 @@ pub fn broken<'a>(
     if !each_at_most(barrier, high) {
         return true;
     }
+    // Two calls, so that the compiler keeps all_read a function of its own, and has the tests before it in each call of a panel.
+    if count == 32 {
+        return !all_read(slots, 32);
+    }
     if 32 < count {
         return true;
     }

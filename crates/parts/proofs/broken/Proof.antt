@@ -1,10 +1,12 @@
 -- `parts::broken` meets its contract: its tests are those of 26, in their order. Assumes nothing.
-use mathlib.Core.Path.{sym, ap, _∙_}
+use mathlib.Core.Path.{_≡_, sym, ap, _∙_}
 use mathlib.Core.Bool.{not}
+use Prim.Native.Nat.{_≤_}
 use native.Mathlib.Omega.{arith}
 use borrow.Author.Tests.{not-true, not-false}
 use denote.Ref.{now}
 use Rattle.rules.specs.Panel.{Panel as Record}
+use Rattle.rules.specs.Refusals.{eachReadable, broken}
 use Rattle.slots.proofs.Held.{length-firstSlots}
 use Rattle.parts.specs.Record.{parts, recordOf}
 use Rattle.parts.proofs.Refusing.{broken-own, broken-marks, broken-barrier, broken-count, broken-waiting}
@@ -36,27 +38,39 @@ returns-3 c =
     let s = c .before .before .before .before .before .before .before .before in
     sym (broken-barrier (given s) (sym (c .before .each-at-most2 .ensures) ∙ not-true _ (c .if3 .taken)))
 
-returns-4 : tie.Need-returns-4
-returns-4 c =
-    let s = c .before .before .before .before .before .before .before .before .before in
-    sym (broken-count (given s) (omega (arith, length-firstSlots (now (s .args .slots)) (s .args .count), c .if4 .taken)))
-
-all-read-requires : tie.Need-all-read-requires
-all-read-requires c κs = (c .before .before .before .before .before .before .before .before .before .pre .2, c .if4 .left)
-
-returns-5 : tie.Need-returns-5
-returns-5 c =
-    let barrier = c .before .before .before in
+-- past marks and barrier the waiting messages decide
+waiting : (c : tie.Else3) → let s = c .before .before .before .before .before .before .before .before in
+    s .args .count ≤ 32 → not (eachReadable (given s .waiting)) ≡ broken (given s)
+waiting c few =
+    let barrier = c .before in
     let marks = barrier .before .before in
     let s = marks .before .before .before .before .before in
-    ap not (c .all-read .ensures)
-    ∙ sym
+    sym
     (broken-waiting
     (given s)
     (marks .before .if1 .left)
     (sym (marks .each-at-most .ensures) ∙ not-false _ (barrier .before .if2 .left))
-    (sym (barrier .each-at-most2 .ensures) ∙ not-false _ (c .before .before .if3 .left))
-    (omega (arith, length-firstSlots (now (s .args .slots)) (s .args .count), c .before .if4 .left)))
+    (sym (barrier .each-at-most2 .ensures) ∙ not-false _ (c .if3 .left))
+    (omega (arith, length-firstSlots (now (s .args .slots)) (s .args .count))))
+
+all-read-requires : tie.Need-all-read-requires
+all-read-requires c κs = (c .before .before .before .before .before .before .before .before .before .pre .2, omega arith)
+
+returns-4 : tie.Need-returns-4
+returns-4 c =
+    let full = c .before .if4 .taken in
+    ap not (c .all-read .ensures) ∙ rw (← full) (waiting (c .before .before) (omega (arith, full)))
+
+returns-5 : tie.Need-returns-5
+returns-5 c =
+    let s = c .before .before .before .before .before .before .before .before .before .before in
+    sym (broken-count (given s) (omega (arith, length-firstSlots (now (s .args .slots)) (s .args .count), c .if5 .taken)))
+
+all-read-requires-2 : tie.Need-all-read-requires-2
+all-read-requires-2 c κs = (c .before .before .before .before .before .before .before .before .before .before .pre .2, c .if5 .left)
+
+returns-6 : tie.Need-returns-6
+returns-6 c = ap not (c .all-read2 .ensures) ∙ waiting (c .before .before .before) (c .before .if5 .left)
 
 pub broken-spec : {M : Type 1} → statement M
 broken-spec =
@@ -67,6 +81,8 @@ broken-spec =
     returns-2
     each-at-most-requires-2
     returns-3
-    returns-4
     all-read-requires
-    returns-5)
+    returns-4
+    returns-5
+    all-read-requires-2
+    returns-6)

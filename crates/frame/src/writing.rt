@@ -72,7 +72,8 @@ fn put_head(buffer: &mut [u8], source: u8, deadline: u32, mask: u64)
     put_number(buffer, 10, 8, mask);
 }
 
-// Puts the entries of the panels that have one, lowest panel first, up to the place where they end: most panels have none.
+// Puts the entries of the panels that have one, lowest panel first, up to the place where they end:
+// behind the last of them no panel is looked at.
 fn put_entries(buffer: &mut [u8], entries: &[u32], end: usize)
     requires { ⌜ (end ≡ 18 + 4 * length (present (now entries))) × (end ≤ length (now buffer)) ⌝ }
     ensures { λ _. ⌜ now (buffer .exit) ≡ over (now (buffer .entry)) 18 (bigEndians 4 (present (now (entries .entry)))) ⌝ }

@@ -29,8 +29,8 @@ pub struct Answer {
     pub number: u8,
 }
 
-// Whether each number is at most the limit. (It goes through all of them, so that the compiler takes four
-// at a time.)
+// Whether each number is at most the limit. (It goes through all of them, upwards, so that the compiler
+// takes four at a time.)
 fn each_at_most(numbers: &[u32], limit: u32) -> bool
     requires { ⌜ length (now numbers) ≡ 64 ⌝ }
     ensures { λ r. ⌜ r ≡ eachBelow (limit + 1) (now (numbers .entry)) ⌝ }
@@ -69,7 +69,7 @@ pub fn broken<'a>(
     if !each_at_most(barrier, high) {
         return true;
     }
-    // Two calls, so that the compiler keeps all_read a function of its own, and has the tests before it in each call of a panel.
+    // (Two calls: so the compiler keeps all_read a function of its own, and the tests above stand in each call.)
     if count == 32 {
         return !all_read(slots, 32);
     }

@@ -19,8 +19,8 @@ ghost use Rattle.slots.specs.Slots.{slotLength, framed, Reads, Slots, Fi
 ghost use Rattle.slots.specs.Slots.{frameAt as frameIn};
 ghost use Rattle.slots.specs.Moves.{Alive, Gathered};
 
-// The first eight bytes of a slot as one number: the unit of the length in it; and what is left of it without the length and the low
-// six bits of the source, which are mark and version.
+// The first eight bytes of a slot as one number: the unit of the length in it, and mark and version,
+// which are left of it without the length and the low six bits of the source.
 const LENGTH_UNIT: u64 = 0x1000000000000;
 
 const MARK_AND_VERSION: u64 = 0x4452590001 * 4;
@@ -58,8 +58,9 @@ pub fn deadline(frame: &[u8]) -> u32
     number_at(frame, 6, 4) as u32
 }
 
-// Whether a slot, here with those behind it, holds a readable frame. It is what `frame_check` asks, for speed in another form: the first
-// eight bytes are one number, and since a slot has room for 64 entries, the length is compared last.
+// Whether a slot, here with those behind it, holds a readable frame. It is what `frame_check` asks, in
+// another form for speed: the first eight bytes are one number, and since a slot has room for 64
+// entries, the length is compared last.
 fn holds_frame(slot: &[u8]) -> bool
     requires { ⌜ slotLength ≤ length (now slot) ⌝ }
     ensures { λ r. ⌜ r ≡ eqb (refusal 4 (framed (now (slot .entry)))) 0 ⌝ }

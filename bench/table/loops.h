@@ -79,41 +79,41 @@ typedef struct {
 extern const Loops proved_loops, c_loops;
 
 /* A loop over calls of a kind; the kind is a constant, so that it does not choose. */
-#define LOOP(name, make_call, worked, kind)     \
-    static void name(long times)                \
-    {                                           \
-        for (long i = 0; i < times; i++) {      \
-            if (CHANGES_RECORD(kind))           \
-                put_back(worked);               \
-            make_call(kind);                    \
-        }                                       \
+#define LOOP(name, make_call, worked, kind)                                       \
+    static void name(long times)                                                  \
+    {                                                                             \
+        for (long i = 0; i < times; i++) {                                        \
+            if (CHANGES_RECORD(kind))                                             \
+                put_back(worked);                                                 \
+            make_call(kind);                                                      \
+        }                                                                         \
     }
 
 /* All loops of a side, whose function make_call makes the call of a kind. */
-#define LOOPS(name, make_call, worked)                           \
-    LOOP(check_loop, make_call, worked, CHECK)                   \
-    LOOP(fresh_loop, make_call, worked, FRESH)                   \
-    LOOP(log_loop, make_call, worked, LOG)                       \
-    LOOP(bundle_loop, make_call, worked, BUNDLE)                 \
-    LOOP(send_loop, make_call, worked, SEND)                     \
-    LOOP(receive_loop, make_call, worked, RECEIVE)               \
-    LOOP(read_loop, make_call, worked, RECEIVE_AND_READ)         \
-    LOOP(received_bundle_loop, make_call, worked, RECEIVE_BUNDLE) \
-    LOOP(clock_loop, make_call, worked, CLOCK)                   \
-                                                                 \
-    static void put_back_loop(long times)                        \
-    {                                                            \
-        for (long i = 0; i < times; i++) {                       \
-            put_back(worked);                                    \
-            keep();                                              \
-        }                                                        \
-    }                                                            \
-                                                                 \
-    const Loops name = {                                         \
-        {check_loop, fresh_loop, log_loop, bundle_loop, send_loop, receive_loop, read_loop, \
-         received_bundle_loop, clock_loop},                      \
-        put_back_loop,                                           \
-        worked                                                   \
+#define LOOPS(name, make_call, worked)                                            \
+    LOOP(check_loop, make_call, worked, CHECK)                                    \
+    LOOP(fresh_loop, make_call, worked, FRESH)                                    \
+    LOOP(log_loop, make_call, worked, LOG)                                        \
+    LOOP(bundle_loop, make_call, worked, BUNDLE)                                  \
+    LOOP(send_loop, make_call, worked, SEND)                                      \
+    LOOP(receive_loop, make_call, worked, RECEIVE)                                \
+    LOOP(read_loop, make_call, worked, RECEIVE_AND_READ)                          \
+    LOOP(received_bundle_loop, make_call, worked, RECEIVE_BUNDLE)                 \
+    LOOP(clock_loop, make_call, worked, CLOCK)                                    \
+                                                                                  \
+    static void put_back_loop(long times)                                         \
+    {                                                                             \
+        for (long i = 0; i < times; i++) {                                        \
+            put_back(worked);                                                     \
+            keep();                                                               \
+        }                                                                         \
+    }                                                                             \
+                                                                                  \
+    const Loops name = {                                                          \
+        {check_loop, fresh_loop, log_loop, bundle_loop, send_loop, receive_loop,  \
+         read_loop, received_bundle_loop, clock_loop},                            \
+        put_back_loop,                                                            \
+        worked                                                                    \
     };
 
 #endif

@@ -10,6 +10,8 @@ enum { BUNDLE = 65535 }; /* bytes at most */
 /* Each of the functions fills it from its start, and gives how many bytes it has. */
 extern uint8_t bundle[BUNDLE];
 
+size_t no_frames(void);
+
 /* Frames that are each handed at once; the last bytes are left over. */
 size_t each_handed(void);
 

@@ -7,19 +7,20 @@
 #include "bundles.h"
 
 #include <fcntl.h>
+#include <stdbool.h>
 #include <stdio.h>
 #include <stdlib.h>
 #include <sys/wait.h>
 #include <time.h>
 #include <unistd.h>
 
-/* ---- Runs, with the bundle as standard input ---- */
+/* ---- Runs, with a file as standard input ---- */
 
 static char *tunables;
 
-static void start_program(const char *program, const char *output, int counted)
+static void start_program(const char *program, const char *input, const char *output, bool counted)
 {
-    int in = open("bundle", O_RDONLY);
+    int in = open(input, O_RDONLY);
     int out = open(output, O_WRONLY | O_CREAT | O_TRUNC, 0666);
     int quiet = open("/dev/null", O_WRONLY);
 
@@ -35,67 +36,99 @@ static void start_program(const char *program, const char *output, int counted)
     _exit(1);
 }
 
-/* Gives the seconds that the run took. */
-static double run(const char *program, const char *output, int counted)
+/* Gives the milliseconds that the run took. */
+static double run(const char *program, const char *input, const char *output, bool counted)
 {
-    struct timespec a, b;
+    struct timespec start, end;
     int status;
 
-    clock_gettime(CLOCK_MONOTONIC, &a);
+    clock_gettime(CLOCK_MONOTONIC, &start);
     pid_t child = fork();
     if (child == 0)
-        start_program(program, output, counted);
+        start_program(program, input, output, counted);
     if (child < 0 || waitpid(child, &status, 0) != child || status != 0) {
         fprintf(stderr, "%s does not run\n", program);
         exit(1);
     }
-    clock_gettime(CLOCK_MONOTONIC, &b);
-    return (double)(b.tv_sec - a.tv_sec) + (double)(b.tv_nsec - a.tv_nsec) / 1e9;
+    clock_gettime(CLOCK_MONOTONIC, &end);
+    return (double)(end.tv_sec - start.tv_sec) * 1e3 +
+           (double)(end.tv_nsec - start.tv_nsec) / 1e6;
 }
 
 /* Thousands of instructions of a run. */
-static double count(const char *program)
+static double count(const char *program, const char *input)
 {
     char line[400];
-    double n = 0;
+    double counted = 0;
 
-    run(program, "/dev/null", 1);
-    FILE *f = fopen("counted_list", "r");
-    while (f && n == 0 && fgets(line, sizeof line, f))
-        sscanf(line, "totals: %lf", &n);
-    if (n == 0) {
+    run(program, input, "/dev/null", true);
+    FILE *file = fopen("counted_list", "r");
+    while (file && counted == 0 && fgets(line, sizeof line, file))
+        sscanf(line, "totals: %lf", &counted);
+    if (counted == 0) {
         fprintf(stderr, "%s: no count\n", program);
         exit(1);
     }
-    fclose(f);
-    return n / 1e3;
+    fclose(file);
+    return counted / 1e3;
 }
 
-/* ---- The table ---- */
+/* ---- The bundles ---- */
 
-static void show(const char *name, size_t size, char **program, int rounds)
+enum { PROVED, IN_C, PROGRAMS };
+
+typedef struct {
+    const char *name;
+    size_t (*fill)(void);
+    const char *file; /* which it stands in */
+    size_t size;
+    double best[PROGRAMS]; /* 0 before the first round */
+} Row;
+
+static Row rows[] = {
+    {"empty: the start of a process", no_frames, "bundle_empty", 0, {0, 0}},
+    {"short frames, each handed", each_handed, "bundle_short", 0, {0, 0}},
+    {"frames of 303 bytes, each handed", long_handed, "bundle_long", 0, {0, 0}},
+    {"32 short frames wait, in turns", in_turns, "bundle_turns", 0, {0, 0}},
+    {"32 short frames wait, others refused", all_wait, "bundle_wait", 0, {0, 0}},
+    {"the same short frame again", one_again, "bundle_again", 0, {0, 0}}
+};
+
+enum { ROWS = sizeof rows / sizeof rows[0] };
+
+/* Writes the bundle to its file; both programs have to print the same text for it. */
+static void start_row(Row *row, char **programs)
 {
-    double best[2] = {1e9, 1e9};
-    FILE *f = fopen("bundle", "wb");
+    FILE *file = fopen(row->file, "wb");
 
-    if (!f || fwrite(bundle, 1, size, f) != size || fclose(f) != 0)
+    row->size = row->fill();
+    if (!file || fwrite(bundle, 1, row->size, file) != row->size || fclose(file) != 0)
         exit(1);
-    run(program[0], "printed", 0);
-    run(program[1], "printed_by_c", 0);
+    run(programs[PROVED], row->file, "printed", false);
+    run(programs[IN_C], row->file, "printed_by_c", false);
     if (system("cmp printed printed_by_c") != 0) {
-        printf("%s: they print different texts\n", name);
+        printf("%s: they print different texts\n", row->name);
         exit(1);
     }
-    for (int i = 0; i < rounds; i++) {
-        for (int k = 0; k < 2; k++) {
-            double t = run(program[k], "/dev/null", 0);
-            best[k] = t < best[k] ? t : best[k];
-        }
+}
+
+/* One round of a row. A row's rounds lie apart, so that a slow while spoils few. */
+static void time_row(Row *row, char **programs)
+{
+    for (int k = 0; k < PROGRAMS; k++) {
+        double time = run(programs[k], row->file, "/dev/null", false);
+        if (row->best[k] == 0 || time < row->best[k])
+            row->best[k] = time;
     }
-    printf("%-37s%8zu%9.2f%9.2f%9.2f", name, size, best[0] * 1e3, best[1] * 1e3,
-           best[0] / best[1]);
+}
+
+static void print_row(const Row *row, char **programs)
+{
+    printf("%-37s%8zu%9.2f%9.2f%9.2f", row->name, row->size, row->best[PROVED],
+           row->best[IN_C], row->best[PROVED] / row->best[IN_C]);
     if (tunables) {
-        double proved = count(program[0]), c = count(program[1]);
+        double proved = count(programs[PROVED], row->file);
+        double c = count(programs[IN_C], row->file);
         printf("%15.0f%9.0f%9.2f", proved, c, proved / c);
     }
     printf("\n");
@@ -106,18 +139,21 @@ int main(int argc, char **argv)
 {
     if (argc != 4 && argc != 5)
         return 2;
+    char **programs = argv + 1;
     int rounds = atoi(argv[3]);
     tunables = argc == 5 && argv[4][0] != 0 ? argv[4] : NULL;
 
+    for (int i = 0; i < ROWS; i++)
+        start_row(&rows[i], programs);
+    for (int round = 0; round < rounds; round++) {
+        for (int i = 0; i < ROWS; i++)
+            time_row(&rows[i], programs);
+    }
     printf("%-45s%27s%s\n", "list, a whole process", "ms, best of the rounds",
            tunables ? "        thousands of instructions" : "");
     printf("%-37s%8s%9s%9s%9s%s\n", "bundle", "bytes", "proved", "C", "ratio",
            tunables ? "         proved        C    ratio" : "");
-    show("empty: the start of a process", 0, argv + 1, rounds);
-    show("short frames, each handed", each_handed(), argv + 1, rounds);
-    show("frames of 303 bytes, each handed", long_handed(), argv + 1, rounds);
-    show("32 short frames wait, in turns", in_turns(), argv + 1, rounds);
-    show("32 short frames wait, others refused", all_wait(), argv + 1, rounds);
-    show("the same short frame again", one_again(), argv + 1, rounds);
+    for (int i = 0; i < ROWS; i++)
+        print_row(&rows[i], programs);
     return 0;
 }

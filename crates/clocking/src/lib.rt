@@ -61,8 +61,8 @@ pub fn clock_in_place(
     *count = settle_slots(
         own,
         reading,
-        kept.count,
         high,
+        kept.count,
         &mut handed,
         places,
         marks,

@@ -84,8 +84,8 @@ pub fn broken<'a>(
 pub fn settle_slots(
     own: u8,
     time: u32,
-    waiting: usize,
     high: &mut u32,
+    waiting: usize,
     handed: &mut usize,
     places: [u8; 32],
     marks: &mut [u32; 64],
@@ -104,8 +104,8 @@ pub fn settle_slots(
     let still = settle(
         own,
         time,
-        waiting,
         high,
+        waiting,
         handed,
         &mut places,
         marks,

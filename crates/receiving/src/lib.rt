@@ -152,8 +152,8 @@ pub fn receive_in_place(
     *count = settle_slots(
         left.own,
         left.time,
-        left.waiting,
         high,
+        left.waiting,
         &mut handed,
         places,
         marks,

@@ -91,8 +91,8 @@ pub fn send_in_place(
     *count = settle_slots(
         own,
         time,
-        *count,
         high,
+        *count,
         &mut handed,
         places,
         marks,

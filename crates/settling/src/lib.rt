@@ -219,8 +219,8 @@ fn leave(places: &mut [u8; 32], waiting: usize, place: usize) -> u8
 pub fn settle(
     own: u8,
     time: u32,
-    waiting: usize,
     high: &mut u32,
+    waiting: usize,
     handed: &mut usize,
     places: &mut [u8; 32],
     marks: &mut [u32; 64],
@@ -251,8 +251,8 @@ pub fn settle(
     settle(
         own,
         time,
-        waiting - 1,
         high,
+        waiting - 1,
         handed,
         places,
         marks,

@@ -82,7 +82,7 @@ returns-2 c =
     let s = settled .settle-slots in (
       clocked-done (lent (back past)) (a .reading) (a .output .now) _ (kept .alive .ensures)
           (s .last .1 .1 .1 .1 .1 .1 .1 .1 .0)
-          (stage (left (a .own) (a .reading) (s .last .1 .1 .1 .0) (s .result) (s .last .1 .1 .1 .1 .0)) (firstSlots 32) (s .last .1 .1 .1 .1 .1 .1 .0) (s .last .1 .1 .1 .1 .1 .1 .1 .0) (s .last .1 .1 .1 .1 .1 .1 .1 .1 .1 .0)) _ (passed past) (s .ensures)
+          (stage (left (a .own) (a .reading) (s .last .1 .1 .0) (s .result) (s .last .1 .1 .1 .1 .0)) (firstSlots 32) (s .last .1 .1 .1 .1 .1 .1 .0) (s .last .1 .1 .1 .1 .1 .1 .1 .0) (s .last .1 .1 .1 .1 .1 .1 .1 .1 .1 .0)) _ (passed past) (s .ensures)
           (s .ensures .panel),
       λ refuses. absurd (refuses refl),
     )

@@ -116,7 +116,7 @@ returns-2 c =
     let s = settled .settle-slots in (
       received-done (lent (back past)) (a .frame .now) (a .output .now) (valid-kept (lent (back past)) (checked past .valid)) (checked past .read) _ _
           (take .take .ensures) (s .last .1 .1 .1 .1 .1 .1 .1 .1 .0)
-          (stage (left (take .take .result .own) (take .take .result .time) (s .last .1 .1 .1 .0) (s .result) (s .last .1 .1 .1 .1 .0)) (firstSlots 32) (s .last .1 .1 .1 .1 .1 .1 .0) (s .last .1 .1 .1 .1 .1 .1 .1 .0) (s .last .1 .1 .1 .1 .1 .1 .1 .1 .1 .0))
+          (stage (left (take .take .result .own) (take .take .result .time) (s .last .1 .1 .0) (s .result) (s .last .1 .1 .1 .1 .0)) (firstSlots 32) (s .last .1 .1 .1 .1 .1 .1 .0) (s .last .1 .1 .1 .1 .1 .1 .1 .0) (s .last .1 .1 .1 .1 .1 .1 .1 .1 .1 .0))
           (rw (order .in-order .ensures) at (s .ensures)) (passed past),
       λ refuses. absurd (refuses refl),
     )

@@ -176,7 +176,7 @@ returns-2 c =
     (handed .ensures .0) (order .in-order .ensures) (handed .ensures .1) (handed .ensures .2) (handed .ensures .3) in
     let settles = rw stage-is at (s .ensures) in (
       sent-done P (valid-kept (lent (back (past write))) (checked P .valid)) (s .last .1 .1 .1 .1 .1 .1 .1 .1 .0)
-          (stage (left (back (past write) .args .own) (back (past write) .args .time) (s .last .1 .1 .1 .0) (s .result) (s .last .1 .1 .1 .1 .0)) (firstSlots 32) (s .last .1 .1 .1 .1 .1 .1 .0) (s .last .1 .1 .1 .1 .1 .1 .1 .0) (s .last .1 .1 .1 .1 .1 .1 .1 .1 .1 .0)) _ settles (settles .panel)
+          (stage (left (back (past write) .args .own) (back (past write) .args .time) (s .last .1 .1 .0) (s .result) (s .last .1 .1 .1 .1 .0)) (firstSlots 32) (s .last .1 .1 .1 .1 .1 .1 .0) (s .last .1 .1 .1 .1 .1 .1 .1 .0) (s .last .1 .1 .1 .1 .1 .1 .1 .1 .1 .0)) _ settles (settles .panel)
           _ _ (wrote write .0) (wrote write .1),
       λ refuses. absurd (refuses refl),
     )

@@ -26,7 +26,7 @@ use Rattle.settling.proofs.+settle.{statement}
 use Rattle.settling.proofs.+settle.Tie.{close}
 
 abbrev μ-settle : Measures 7 settle-kinds.ps ℕ
-μ-settle κs a = a .1 .1 .0
+μ-settle κs a = a .1 .1 .1 .0
 
 abbrev settle-at : ℕ → In 7 settle-kinds.ps
 settle-at t = and 7 settle-kinds.ps (is 7 settle-kinds.ps μ-settle t) settle.Pre
@@ -138,7 +138,7 @@ settle-add-handed t c =
     omega (arith, below t b, start t b .pre .1 .1, start t b .good)
 
 settle-sub-settle : (t : ℕ) → settle-lts.Need-sub-settle (calls t) (settle-at t) settle.Post
-settle-sub-settle t c = omega (arith, below t (c .before .before .before .before .before .before .before .before .before .before .before))
+settle-sub-settle t c = omega (arith, below t (c .before .before .before .before .before .before .before .before .before .before .before .before))
 
 settle-settle-requires : (t : ℕ) → settle-lts.Need-settle-requires (calls t) (settle-at t) settle.Post
 settle-settle-requires t c κs =
@@ -168,7 +168,7 @@ settle-returns-2 t c =
     let s = start t b in
     settles-some (s .args .slots .now) (from t s) (s .pre .1 .0 .1) (s .pre .1 .0 .2) (choice .result) (choice .ensures)
     (not-false _ (b .if1 .left)) (omega (arith, s .pre .1 .1)) _
-    (stage (left (s .args .own) (s .args .time) (rest .last .1 .1 .1 .0) (rest .result) (rest .last .1 .1 .1 .1 .0)) (rest .last .1 .1 .1 .1 .1 .0)
+    (stage (left (s .args .own) (s .args .time) (rest .last .1 .1 .0) (rest .result) (rest .last .1 .1 .1 .1 .0)) (rest .last .1 .1 .1 .1 .1 .0)
     (rest .last .1 .1 .1 .1 .1 .1 .0) (rest .last .1 .1 .1 .1 .1 .1 .1 .0) (rest .last .1 .1 .1 .1 .1 .1 .1 .1 .1 .0))
     (handed t hand)
     (rest .ensures)

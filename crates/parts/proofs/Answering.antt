@@ -61,8 +61,7 @@ settles-slots slots begun s places marks barrier output after settles long gathe
           ap₂ (λ (o t : ℕ). recordOf (parts o t (s .high) (s .waiting) marks barrier after)) (sym own) (sym time)
           ∙ ap (withWaiting (panelAt slots (stage s places marks barrier output))) held-now
           ∙ settles .panel;
-      output = settles .output;
-      handed = settles .handed;
+      logged = record { output = settles .logged .output; handed = settles .logged .handed };
     }
 
 logRecords-append : (ms more : List Message) → logRecords (ms ++ more) ≡ logRecords ms ++ logRecords more
@@ -93,9 +92,9 @@ module _ (p : Record) (call : Call) (passed : firstOf (checksOf p call) ≡ 0) (
   settled-promised written counted size back buffer given filled =
       let rest = settle (panelAt slots begun) .handed in
       let count : after .left .handed ≡ length (before ++ settle (panelAt slots begun) .handed)
-      = settles .handed ∙ omega (arith, counted, length-append before rest) in
+      = settles .logged .handed ∙ omega (arith, counted, length-append before rest) in
       let output : after .output ≡ over (outputOf call) 0 (logRecords (before ++ settle (panelAt slots begun) .handed))
-      = settles .output
+      = settles .logged .output
       ∙ ap (λ (l : List ℕ). over l (outputPlace (begun .left)) (logRecords rest)) written
       ∙ over-over (outputOf call) 0 (logRecords before) (outputPlace (begun .left)) (logRecords rest)
       (omega (arith, size, ap (λ (n : ℕ). n * logRecordLength) counted)) (omega arith)

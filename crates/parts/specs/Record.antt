@@ -1,15 +1,12 @@
 -- The record in the parts that it is lent in, what a call in place promises of them, and what settling the slots ensures.
-use Prim.Native.Nat.{ℕ, _+_}
+use Prim.Native.Nat.{ℕ}
 use mathlib.Core.Path.{_≡_}
 use mathlib.Core.List.{List}
-use lib.ListN.{length}
-use Rattle.numbers.specs.Buffer.{over}
 use Rattle.rules.specs.Panel.{Panel as Record}
-use Rattle.rules.specs.Handing.{logRecords}
 use Rattle.rules.specs.Settling.{settle}
 use Rattle.rules.specs.Results.{Call, Result, Promised}
 use Rattle.slots.specs.Slots.{held, firstSlots}
-use Rattle.settling.specs.Record.{Stage, panelAt, outputPlace}
+use Rattle.settling.specs.Record.{Stage, panelAt, Logged}
 use Rattle.parts.specs.declared.Answer.{Answer}
 
 -- ---- the record
@@ -60,5 +57,4 @@ PromisedInPlace before call answer after output buffer =
 pub record SettlesSlots (slots : List ℕ) (before : Stage) (slots′ : List ℕ) (after : Stage) : Type 0 where
   pub panel : recordOf (parts (before .left .own) (before .left .time) (after .left .high) (after .left .waiting) (after .marks) (after .barrier) slots′)
       ≡ settle (panelAt slots before) .panel
-  pub output : after .output ≡ over (before .output) (outputPlace (before .left)) (logRecords (settle (panelAt slots before) .handed))
-  pub handed : after .left .handed ≡ before .left .handed + length (settle (panelAt slots before) .handed)
+  pub logged : Logged (settle (panelAt slots before) .handed) before after

@@ -100,8 +100,8 @@ module _ (p : Parts) (bytes output : List ℕ) (kept : Kept (p .slots) (p .count
       settled-promised (recordOf p) (receive bytes output) passed slots′ (handedAtOnce (recordOf p) m) begun slots″ after settles
       (receiving-taking (recordOf p) m
       ∙ ap (λ (r : Record). afterwards (handedAtOnce (recordOf p) m) (settle r)) (sym (taken .panel ∙ ap (λ (r : Record). taking r m) same)))
-      (rw same at (taken .output))
-      (rw same at (taken .handed) ∙ zero-add (length (handedAtOnce (recordOf p) m)))
+      (rw same at (taken .logged .output))
+      (rw same at (taken .logged .handed) ∙ zero-add (length (handedAtOnce (recordOf p) m)))
       (length-atOnce (recordOf p) bytes reads)
       leftBehind
       []

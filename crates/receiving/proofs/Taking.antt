@@ -1,9 +1,8 @@
 -- Laws of taking a message: it is handed if it is ready, and otherwise put behind those that wait. Assumes nothing.
 use Prim.Native.Nat.{ℕ, zero, suc, _+_, _*_, _/_, _≤_, _<_, max}
-use native.Mathlib.Nat.{add-zero}
 use native.Mathlib.Numerals.{add-one}
 use native.Mathlib.Omega.{arith}
-use mathlib.Core.Path.{_≡_, sym, ap, _∙_}
+use mathlib.Core.Path.{_≡_, refl, sym, ap, _∙_}
 use mathlib.Core.Logic.{_⊎_, ⊎-elim}
 use mathlib.Core.Bool.{true, false, true≢false}
 use mathlib.Core.List.{List, [], _∷_, _++_, append-nil}
@@ -11,7 +10,6 @@ use lib.ListN.{length, take}
 use lib.Count.{onesIn}
 use Rattle.numbers.specs.Numbers.{bigEndian}
 use Rattle.numbers.specs.Buffer.{over}
-use Rattle.numbers.proofs.Over.{over-nil}
 use Rattle.frame.specs.Message.{Message}
 use Rattle.frame.specs.Reading.{maskIn, messageIn}
 use Rattle.frame.proofs.Passed.{zero-passed}
@@ -24,6 +22,7 @@ use Rattle.slots.proofs.Held.{carried-reads}
 use Rattle.slots.proofs.Kept.{listed-order, held-order, slots-put, held-put, kept-put}
 use Rattle.settling.specs.declared.Settling.{Settling}
 use Rattle.settling.specs.Record.{asking, Stage, stage, panelAt, outputPlace}
+use Rattle.settling.proofs.Stages.{logged-none}
 use Rattle.receiving.specs.Steps.{taking, handedAtOnce, Taken}
 use Rattle.receiving.proofs.MessageChecks.{ready-asking}
 
@@ -82,10 +81,13 @@ module _ (s : Settling) (marks barrier slots output frame : List ℕ) (reads : R
       let it : handedAtOnce p m ≡ m ∷ [] = handedAtOnce-ready p m now-ready in
       record {
         panel = sym (taking-ready p m now-ready);
-        output =
-            ap (over output (outputPlace s)) (sym (append-nil (logRecord m)))
-            ∙ ap (λ (ms : List Message). over output (outputPlace s) (logRecords ms)) (sym it);
-        handed = ap (λ (ms : List Message). s .handed + length ms) (sym it);
+        logged =
+            record {
+              output =
+                  ap (over output (outputPlace s)) (sym (append-nil (logRecord m)))
+                  ∙ ap (λ (ms : List Message). over output (outputPlace s) (logRecords ms)) (sym it);
+              handed = ap (λ (ms : List Message). s .handed + length ms) (sym it);
+            };
         one-more = omega arith;
         listed = listed-order slots (s .waiting) kept;
         size = size;
@@ -116,16 +118,13 @@ module _ (s : Settling) (marks barrier slots output frame : List ℕ) (reads : R
         ∙ rw (carried-reads frame reads, held-order slots (s .waiting) (kept .few))
 
     put-last : Taken m slots before put (stage after (firstSlots 32) marks barrier output)
-    unfolding logRecords
     put-last =
         let p = panelAt slots before in
         let not-ready = sym (ready-asking p m) ∙ unready in
-        let none-now : handedAtOnce p m ≡ [] = handedAtOnce-unready p m not-ready in
         record {
           panel = ap (withWaiting p) waiting-after ∙ sym (taking-unready p m not-ready);
-          output =
-              sym (ap (λ (ms : List Message). over output (outputPlace s) (logRecords ms)) none-now ∙ over-nil output (outputPlace s));
-          handed = sym (ap (λ (ms : List Message). s .handed + length ms) none-now ∙ add-zero (s .handed));
+          logged =
+              logged-none before (stage after (firstSlots 32) marks barrier output) (handedAtOnce p m) (handedAtOnce-unready p m not-ready) refl refl;
           one-more = omega arith;
           listed = listed-order put (s .waiting + 1) kept-after;
           size = slots-put slots (s .waiting) frame size kept few (length-reads frame reads);

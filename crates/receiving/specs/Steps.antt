@@ -3,17 +3,15 @@ use Prim.Native.Nat.{ℕ, _+_}
 use mathlib.Core.Path.{_≡_}
 use mathlib.Core.Bool.{Bool, cond}
 use mathlib.Core.List.{List, [], _∷_, _++_}
-use lib.ListN.{length}
 use lib.Dec.{ltb}
-use Rattle.numbers.specs.Buffer.{over}
 use Rattle.frame.specs.Message.{Message}
 use Rattle.frame.specs.Reading.{checks}
 use Rattle.rules.specs.Sizes.{width, outputLength}
 use Rattle.rules.specs.Panel.{Panel as Record, ready}
-use Rattle.rules.specs.Handing.{hand, logRecords}
+use Rattle.rules.specs.Handing.{hand}
 use Rattle.rules.specs.Settling.{withWaiting}
 use Rattle.slots.specs.Slots.{Slots, Listed}
-use Rattle.settling.specs.Record.{Stage, panelAt, outputPlace}
+use Rattle.settling.specs.Record.{Stage, panelAt, Logged}
 
 -- the checks before those of the message that was read, on what they ask for (`receiveChecks` of the rules is these and those)
 abbrev pub frameChecksOn : Bool → ℕ → List ℕ → List (Bool × ℕ)
@@ -29,8 +27,7 @@ handedAtOnce p m = cond (ready p m) (m ∷ []) []
 -- a message was taken
 pub record Taken (m : Message) (slots : List ℕ) (before : Stage) (slots′ : List ℕ) (after : Stage) : Type 0 where
   pub panel : panelAt slots′ after ≡ taking (panelAt slots before) m
-  pub output : after .output ≡ over (before .output) (outputPlace (before .left)) (logRecords (handedAtOnce (panelAt slots before) m))
-  pub handed : after .left .handed ≡ before .left .handed + length (handedAtOnce (panelAt slots before) m)
+  pub logged : Logged (handedAtOnce (panelAt slots before) m) before after
   pub one-more : after .left .handed + after .left .waiting ≡ before .left .handed + before .left .waiting + 1
   pub listed : Listed slots′ (after .left .waiting) (after .places)
   pub size : Slots slots′

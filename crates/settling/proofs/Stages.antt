@@ -18,7 +18,7 @@ use Rattle.rules.specs.Settling.{choice, without, withWaiting, waitingAt, Settl
 use Rattle.rules.proofs.Choice.{choice-some}
 use Rattle.rules.proofs.Settling.{settle-step}
 use Rattle.slots.specs.Slots.{Listed, frameAt, held}
-use Rattle.settling.specs.Record.{asking, firstIn, Stage, stage, panelAt, outputPlace, Leaves, Settles}
+use Rattle.settling.specs.Record.{asking, firstIn, Stage, stage, panelAt, outputPlace, Leaves, Settles, Logged}
 use Rattle.settling.specs.declared.Settling.{Settling}
 use Rattle.settling.specs.declared.First.{First}
 use Rattle.settling.proofs.Choosing.{firstIn-none, firstIn-some}
@@ -80,17 +80,26 @@ module _ (slots : List ℕ) (place : ℕ) (s : Settling) (places rest marks barr
 
 -- ---- a step of settling
 
+-- nothing was handed
+pub logged-none : (before after : Stage) (ms : List Message) → ms ≡ [] → after .output ≡ before .output → after .left .handed ≡ before .left .handed
+    → Logged ms before after
+unfolding logRecords
+logged-none before after ms empty output handed =
+    let at = outputPlace (before .left) in
+    record {
+      output = output ∙ sym (ap (λ (l : List Message). over (before .output) at (logRecords l)) empty ∙ over-nil (before .output) at);
+      handed = handed ∙ sym (ap (λ (l : List Message). before .left .handed + length l) empty ∙ add-zero (before .left .handed));
+    }
+
 module _ (slots : List ℕ) (s : Stage) where
   settles-end : Listed slots (s .left .waiting) (s .places) → choice (panelAt slots s) (panelAt slots s .waiting) ≡ none → Settles slots s s
   unfolding goOn logRecords
   settles-end listed e =
       let p = panelAt slots s in
-      let at = outputPlace (s .left) in
       let all : settle p ≡ record { panel = p; handed = [] } = settle-step p ∙ ap (goOn settle p) e in
       record {
         panel = ap (λ (x : Settled). x .panel) (sym all);
-        output = sym (ap (λ (x : Settled). over (s .output) at (logRecords (x .handed))) all ∙ over-nil (s .output) at);
-        handed = sym (ap (λ (x : Settled). s .left .handed + length (x .handed)) all ∙ add-zero (s .left .handed));
+        logged = logged-none s s (settle p .handed) (ap (λ (x : Settled). x .handed) all) refl refl;
         listed = listed;
         long = refl;
       }
@@ -112,12 +121,15 @@ module _ (slots : List ℕ) (s : Stage) where
       let count : length (settle p .handed) ≡ suc (length (settle q .handed)) = ap (λ (x : Settled). length (x .handed)) all in
       record {
         panel = rest .panel ∙ ap (λ (x : Settled). x .panel) (sym all);
-        output =
-            rest .output
-            ∙ ap (λ (l : List ℕ). over l (outputPlace (t .left)) bs) (h .output)
-            ∙ over-over (s .output) at (logRecord m) (outputPlace (t .left)) bs (omega (arith, h .handed, size)) room
-            ∙ ap (λ (x : Settled). over (s .output) at (logRecords (x .handed))) (sym all);
-        handed = omega (arith, rest .handed, h .handed, count);
+        logged =
+            record {
+              output =
+                  rest .logged .output
+                  ∙ ap (λ (l : List ℕ). over l (outputPlace (t .left)) bs) (h .output)
+                  ∙ over-over (s .output) at (logRecord m) (outputPlace (t .left)) bs (omega (arith, h .handed, size)) room
+                  ∙ ap (λ (x : Settled). over (s .output) at (logRecords (x .handed))) (sym all);
+              handed = omega (arith, rest .logged .handed, h .handed, count);
+            };
         listed = rest .listed;
         long = rest .long ∙ h .long;
       }

@@ -78,10 +78,14 @@ pub record Leaves (waiting place : ℕ) (before after : List ℕ) : Type 0 where
   pub moves : (k : ℕ) → k + 1 < waiting → getD after k 0 ≡ getD before (cond (ltb k place) k (k + 1)) 0
   pub long : length after ≡ length before
 
--- the record has settled, and the log records of the messages handed stand in the output
+-- these messages were handed: their log records stand in the output, behind those before, and are counted
+pub record Logged (ms : List Message) (before after : Stage) : Type 0 where
+  pub output : after .output ≡ over (before .output) (outputPlace (before .left)) (logRecords ms)
+  pub handed : after .left .handed ≡ before .left .handed + length ms
+
+-- the record has settled
 pub record Settles (slots : List ℕ) (before after : Stage) : Type 0 where
   pub panel : panelAt slots after ≡ settle (panelAt slots before) .panel
-  pub output : after .output ≡ over (before .output) (outputPlace (before .left)) (logRecords (settle (panelAt slots before) .handed))
-  pub handed : after .left .handed ≡ before .left .handed + length (settle (panelAt slots before) .handed)
+  pub logged : Logged (settle (panelAt slots before) .handed) before after
   pub listed : Listed slots (after .left .waiting) (after .places)
   pub long : length (after .places) ≡ length (before .places)

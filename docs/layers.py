@@ -26,7 +26,7 @@ PROVED = "proved: from the bytes to the order of each log, after every list of c
 LEGEND = ("A crate stands on those of lower layers; the number at the left is its layer. Bars: lines without blank and comment lines, all to one scale; "
           "code + its promises (`requires`, `ensures`, `ghost use`), definitions (`specs/`), proof (`proofs/`). A must-fail edit is a wrong version that the "
           "prover has to refuse. Steps are those of the way of a frame, below.")
-NOTE = ("The numbers in red are document 01's refusals. The third call, `panel_clock` (26, 10, 25), sets the time, drops what has lapsed (`alive`), and "
+NOTE = ("The numbers in red are document 01's refusals. The third call, `clock_in_place` (26, 10, 25), sets the time, drops what has lapsed (`alive`), and "
         "settles as in steps 10 to 12.")
 NAMES = 96  # the width of the lanes' names
 LABEL, BLOCK = 62, 196  # the width of the words before a bar, and of all bars of a box

@@ -1,6 +1,6 @@
 -- Laws of `eachEarlier` and `eachBelow`, the tests on every number of a list: what they say, and how a loop finds them. Assumes nothing.
 use mathlib.Core.Path.{_≡_, refl}
-use mathlib.Core.Bool.{true, false, _&&_, and-false}
+use mathlib.Core.Bool.{Bool, true, false, _&&_, and-false}
 use mathlib.Core.List.{List, [], _∷_}
 use Prim.Native.Nat.{ℕ, zero, suc, _+_, _-_, _≤_, _<_}
 use native.Mathlib.Numerals.{sub-one}
@@ -8,7 +8,7 @@ use native.Mathlib.Omega.{arith}
 use lib.Dec.{ltb}
 use lib.ListN.{length, getD, drop, drop-of-length-le}
 use lib.Seq.{drop-cons}
-use borrow.Author.Tests.{lt-ltb, le-ltb, ltb-true}
+use borrow.Author.Tests.{lt-ltb, le-ltb, ltb-true, ltb-false}
 use Rattle.numbers.specs.Numbers.{numberAt, numbersAt}
 use Rattle.frame.specs.Reading.{eachEarlier}
 use Rattle.frame.specs.Readable.{eachBelow}
@@ -49,6 +49,14 @@ module _ (deadline : ℕ) (bs : List ℕ) (at width : ℕ) where
   unfolding eachEarlier numbersAt
   eachEarlier-late zero h e = absurd (omega arith)
   eachEarlier-late (suc left) h e = simp (le-ltb (numberAt bs at width) deadline e, and-false)
+
+  pub eachEarlier-outside : (left : ℕ) → 0 < left → (0 < numberAt bs at width → deadline ≤ numberAt bs at width)
+      → eachEarlier deadline (numbersAt bs at width left) ≡ false
+  eachEarlier-outside left h outside = go (ltb 0 (numberAt bs at width)) refl
+    where
+      go : (b : Bool) → ltb 0 (numberAt bs at width) ≡ b → eachEarlier deadline (numbersAt bs at width left) ≡ false
+      go true e = eachEarlier-late left h (outside (ltb-true _ _ e))
+      go false e = eachEarlier-zero left h (omega (arith, ltb-false 0 (numberAt bs at width) e))
 
   pub eachEarlier-next : (left : ℕ) → 0 < left → 0 < numberAt bs at width → numberAt bs at width < deadline
       → eachEarlier deadline (numbersAt bs at width left) ≡ eachEarlier deadline (numbersAt bs (at + width) width (left - 1))

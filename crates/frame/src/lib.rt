@@ -3,9 +3,10 @@
 mod writing;
 
 use numbers::number_at;
+use std::num::wrapping_sub_u64;
 pub use writing::write;
 ghost use mathlib.Core.Path.{_≡_};
-ghost use Prim.Native.Nat.{_+_, _*_, _≤_};
+ghost use Prim.Native.Nat.{_+_, _*_, _≤_, _<_};
 ghost use lib.Count.{onesIn};
 ghost use lib.ListN.{length, take};
 ghost use Rattle.numbers.specs.Numbers.{numbersAt};
@@ -44,19 +45,17 @@ fn entry_count(frame: &[u8]) -> usize
     u64::count_ones(number_at(frame, 10, 8)) as usize
 }
 
-// Whether each of the entries is at least 1 and below the deadline.
+// Whether each of the entries is at least 1 and below the deadline. (For speed one test serves for
+// both: less 1, an entry of 0 wraps to the largest number.)
 fn each_earlier(frame: &[u8], count: usize, deadline: u64) -> bool
-    requires { ⌜ 18 + 4 * count ≤ length (now frame) ⌝ }
+    requires { ⌜ (18 + 4 * count ≤ length (now frame)) × (0 < deadline) ⌝ }
     ensures { λ r. ⌜ r ≡ eachEarlier deadline (numbersAt (now (frame .entry)) 18 4 count) ⌝ }
 {
+    let limit = deadline - 1;
     let mut at = 18;
     let mut left = count;
     while 0 < left {
-        let entry = number_at(frame, at, 4);
-        if entry == 0 {
-            return false;
-        }
-        if deadline <= entry {
+        if limit <= wrapping_sub_u64(number_at(frame, at, 4), 1) {
             return false;
         }
         at += 4;

@@ -2,9 +2,9 @@
 use mathlib.Core.Path.{_≡_, refl, sym, ap, ap₂, _∙_}
 use mathlib.Core.Bool.{not}
 use mathlib.Core.List.{List}
-use Prim.Native.Nat.{ℕ, _+_, _-_, _*_, _≤_}
+use Prim.Native.Nat.{ℕ, _+_, _-_, _*_, _≤_, _<_}
 use borrow.Author.Needs.{needs}
-use borrow.Author.Tests.{lt-ltb, le-ltb, ltb-false, not-true, not-false}
+use borrow.Author.Tests.{lt-ltb, le-ltb, ltb-false, eqb-false, not-true, not-false}
 use native.Mathlib.Omega.{arith}
 use denote.Ref.{now}
 use lib.ListN.{length, getD, take}
@@ -35,6 +35,10 @@ head-passed c = omega (arith, c .before .head-check .ensures, c .if1 .left)
 long : (c : tie.Else1) → 19 ≤ length (bytes1 c)
 unfolding checks eachNumber
 long c = ltb-false _ _ (applies-none (take 5 (checks 4 (bytes1 c))) refl (head-passed c) 0)
+
+due : (c : tie.Else1) → 0 < deadlineIn 4 (bytes1 c)
+unfolding checks eachNumber
+due c = omega (arith, eqb-false (deadlineIn 4 (bytes1 c)) 0 (applies-none (take 5 (checks 4 (bytes1 c))) refl (head-passed c) 4))
 
 past1 : (c : tie.Else1) → Past (checks 4 (bytes1 c)) 5
 unfolding checks eachNumber
@@ -109,7 +113,8 @@ number-at-requires : tie.Need-number-at-requires
 number-at-requires c κs = search needs
 
 each-earlier-requires : tie.Need-each-earlier-requires
-each-earlier-requires c κs = search needs
+each-earlier-requires c κs =
+    (search needs, omega (arith, due (c .before .before .before), c .number-at .ensures .0))
 
 returns-3 : tie.Need-returns-3
 unfolding checks

@@ -1,5 +1,5 @@
 -- Laws of taking a message: it is handed if it is ready, and otherwise put behind those that wait. Assumes nothing.
-use Prim.Native.Nat.{ℕ, zero, suc, _+_, _*_, _/_, _≤_, _<_, max}
+use Prim.Native.Nat.{ℕ, _+_, _*_, _≤_, _<_, max}
 use native.Mathlib.Numerals.{add-one}
 use native.Mathlib.Omega.{arith}
 use mathlib.Core.Path.{_≡_, refl, sym, ap, _∙_}
@@ -7,7 +7,6 @@ use mathlib.Core.Logic.{_⊎_, ⊎-elim}
 use mathlib.Core.Bool.{true, false, true≢false}
 use mathlib.Core.List.{List, [], _∷_, _++_, append-nil}
 use lib.ListN.{length, take}
-use lib.Count.{onesIn}
 use Rattle.numbers.specs.Numbers.{bigEndian}
 use Rattle.numbers.specs.Buffer.{over}
 use Rattle.frame.specs.Message.{Message}
@@ -18,6 +17,7 @@ use Rattle.rules.specs.Panel.{Panel, ready}
 use Rattle.rules.specs.Handing.{raise, hand, logRecord, logRecords}
 use Rattle.rules.specs.Settling.{withWaiting}
 use Rattle.slots.specs.Slots.{slotLength, Reads, Slots, Kept, held, firstSlots}
+use Rattle.slots.proofs.Ones.{onesIn-le}
 use Rattle.slots.proofs.Held.{carried-reads}
 use Rattle.slots.proofs.Kept.{listed-order, held-order, slots-put, held-put, kept-put}
 use Rattle.settling.specs.declared.Settling.{Settling}
@@ -46,11 +46,6 @@ module _ (p : Panel) (m : Message) where
 -- where there is room or it is ready, and it is not ready, there is room
 pub room-unready : (p : Panel) (m : Message) (count : ℕ) → (count < 32) ⊎ (ready p m ≡ true) → ready p m ≡ false → count < 32
 room-unready p m count room e = ⊎-elim (λ (lt : count < 32). lt) (λ (t : ready p m ≡ true). absurd (true≢false (sym t ∙ e))) room
-
-onesIn-le : (d n : ℕ) → onesIn d n ≤ d
-unfolding onesIn
-onesIn-le zero n = omega arith
-onesIn-le (suc d) n = omega (arith, onesIn-le d (n / 2))
 
 -- bytes that read as a message have room in a slot
 pub length-reads : (bs : List ℕ) → Reads bs → length bs ≤ bufferLength

@@ -16,7 +16,8 @@ use Rattle.numbers.specs.Numbers.{Bytes, numberAt, numbersAt}
 use Rattle.frame.specs.Reading.{eachEarlier, refusal}
 use Rattle.slots.specs.Slots.{framed}
 use Rattle.frame.proofs.EachNumber.{eachEarlier-none, eachEarlier-zero, eachEarlier-late, eachEarlier-next}
-use Rattle.slots.proofs.InSlot.{onesIn-le, onesIn-none, onesIn-and, countOf, payloadOf, Holds, holds-reads, reads-holds, eqb-both}
+use Rattle.slots.proofs.Ones.{onesIn-le, onesIn-none, onesIn-and}
+use Rattle.slots.proofs.InSlot.{countOf, payloadOf, Holds, holds-reads, reads-holds, eqb-both}
 use Rattle.slots.proofs.holds_frame.Statement.{statement}
 use Rattle.slots.proofs.holds_frame.Tie as tie
 

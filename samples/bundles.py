@@ -1,14 +1,16 @@
 #!/usr/bin/env python3
-"""Writes the bundles that the runs of "list" in the gate are given; harvest.bundle is the first of them.
+"""Writes the bundles that the runs of "list" are given: those of the crates list and list_case_3, whose runs are part of rt ci
+(harvest.bundle is the first of them), and those of tests/list, which tests/run.sh runs.
 
 usage: samples/bundles.py    (from anywhere; it writes into the repository that it stands in)
 
-What each run must print stands beside it, in crates/NAME/stdout, written from document 01 by hand.
+What each run must print stands beside it, in crates/NAME/stdout or tests/list/NAME.out, written from document 01 by hand; that of
+many_lines is written here, as it is the same two lines 3,120 times.
 """
 import os
 import struct
 
-CRATES = os.path.join(os.path.dirname(os.path.abspath(__file__)), "..", "crates")
+ROOT = os.path.join(os.path.dirname(os.path.abspath(__file__)), "..")
 
 
 def frame(source, deadline, entries=None, payload=b"", mark=b"DRY", version=1, length=None):
@@ -61,19 +63,26 @@ REFUSALS = bundle(
     frame(2, 200, {1: 50}),  # 23
 )
 
-BUNDLES = {
-    "list": HARVEST,
-    "list_case_3": bundle(SECOND, FIRST),
-    "list_empty": b"",
-    "list_one_byte": b"\0",
-    "list_broken": bundle(FIRST, SECOND) + struct.pack(">H", 500) + FIRST,
-    "list_full": bundle(*WAITING, frame(4, 60), frame(2, 200, {1: 50}), frame(1, 50)),
-    "list_refusals": REFUSALS,
-    "list_payloads": bundle(frame(1, 10), frame(2, 20, payload=bytes(range(240, 256)) + bytes(range(16)))),
-    "list_largest": bundle(bytes(65533)),
-    "list_long": bundle(bytes(65534)),
+# The largest input, 65,535 bytes, of short frames: each is handed at once, and the last is too short to be one.
+MANY = range(1, 3121)
+MANY_FRAMES = bundle(*(frame(1, deadline) for deadline in MANY), bytes(13))
+MANY_LINES = "".join(f"frame {i} taken\nhand 1 {i} -\n" for i in MANY) + "frame 3121 1\nend\n"
+
+FILES = {
+    "crates/list/stdin": HARVEST,
+    "crates/list_case_3/stdin": bundle(SECOND, FIRST),
+    "tests/list/empty.in": b"",
+    "tests/list/one_byte.in": b"\0",
+    "tests/list/broken.in": bundle(FIRST, SECOND) + struct.pack(">H", 500) + FIRST,
+    "tests/list/full.in": bundle(*WAITING, frame(4, 60), frame(2, 200, {1: 50}), frame(1, 50)),
+    "tests/list/refusals.in": REFUSALS,
+    "tests/list/payloads.in": bundle(frame(1, 10), frame(2, 20, payload=bytes(range(240, 256)) + bytes(range(16)))),
+    "tests/list/largest.in": bundle(bytes(65533)),
+    "tests/list/long.in": bundle(bytes(65534)),
+    "tests/list/many_lines.in": MANY_FRAMES,
+    "tests/list/many_lines.out": MANY_LINES.encode(),
 }
 
-for name, data in BUNDLES.items():
-    with open(os.path.join(CRATES, name, "stdin"), "wb") as file:
+for name, data in FILES.items():
+    with open(os.path.join(ROOT, name), "wb") as file:
         file.write(data)

@@ -34,29 +34,29 @@ use Rattle.panel.proofs.panel_clock.Statement as clock
 use Rattle.panel.proofs.panel_clock.Met as clock-theorem
 use Rattle.panel.proofs.panel_clock.Kinds as clock-kinds
 use Rattle.panel.proofs.panel_clock.Reads as clock-reads
-use Rattle.panel.proofs.panel_fresh_parts.Statement as fresh-parts
-use Rattle.panel.proofs.panel_fresh_parts.Met as fresh-parts-theorem
-use Rattle.panel.proofs.panel_fresh_parts.Kinds as fresh-parts-kinds
-use Rattle.panel.proofs.panel_fresh_parts.Reads as fresh-parts-reads
-use Rattle.panel.proofs.panel_send_parts.Statement as send-parts
-use Rattle.panel.proofs.panel_send_parts.Met as send-parts-theorem
-use Rattle.panel.proofs.panel_send_parts.Kinds as send-parts-kinds
-use Rattle.panel.proofs.panel_send_parts.Reads as send-parts-reads
-use Rattle.panel.proofs.panel_receive_parts.Statement as receive-parts
-use Rattle.panel.proofs.panel_receive_parts.Met as receive-parts-theorem
-use Rattle.panel.proofs.panel_receive_parts.Kinds as receive-parts-kinds
-use Rattle.panel.proofs.panel_receive_parts.Reads as receive-parts-reads
-use Rattle.panel.proofs.panel_clock_parts.Statement as clock-parts
-use Rattle.panel.proofs.panel_clock_parts.Met as clock-parts-theorem
-use Rattle.panel.proofs.panel_clock_parts.Kinds as clock-parts-kinds
-use Rattle.panel.proofs.panel_clock_parts.Reads as clock-parts-reads
+use Rattle.exports.proofs.panel_fresh_parts.Statement as fresh-parts
+use Rattle.exports.proofs.panel_fresh_parts.Met as fresh-parts-theorem
+use Rattle.exports.proofs.panel_fresh_parts.Kinds as fresh-parts-kinds
+use Rattle.exports.proofs.panel_fresh_parts.Reads as fresh-parts-reads
+use Rattle.exports.proofs.panel_send_parts.Statement as send-parts
+use Rattle.exports.proofs.panel_send_parts.Met as send-parts-theorem
+use Rattle.exports.proofs.panel_send_parts.Kinds as send-parts-kinds
+use Rattle.exports.proofs.panel_send_parts.Reads as send-parts-reads
+use Rattle.exports.proofs.panel_receive_parts.Statement as receive-parts
+use Rattle.exports.proofs.panel_receive_parts.Met as receive-parts-theorem
+use Rattle.exports.proofs.panel_receive_parts.Kinds as receive-parts-kinds
+use Rattle.exports.proofs.panel_receive_parts.Reads as receive-parts-reads
+use Rattle.exports.proofs.panel_clock_parts.Statement as clock-parts
+use Rattle.exports.proofs.panel_clock_parts.Met as clock-parts-theorem
+use Rattle.exports.proofs.panel_clock_parts.Kinds as clock-parts-kinds
+use Rattle.exports.proofs.panel_clock_parts.Reads as clock-parts-reads
 use Rattle.demands.specs.Runs.{Run, madeOf, Follows}
 use Rattle.demands.proofs.Following.{follows-promised}
 use Rattle.demands.proofs.Learning.{Gives, FreshPromise, SendPromise, ReceivePromise, ClockPromise, fresh-learnt, send-learnt, receive-learnt, clock-learnt}
 use Rattle.demands.proofs.Learning.{FreshPartsPromise, SendPartsPromise, ReceivePartsPromise, ClockPartsPromise, fresh-parts-learnt, send-parts-learnt, receive-parts-learnt, clock-parts-learnt}
 
 pub record Demands (M : Type 1) : Type 2 where
-  -- The code in place, which is what C calls (crates/panel/src/exports.rt): each function ends, is safe, and keeps its contract for all
+  -- The code in place, which is what C calls (crates/exports/src/lib.rt): each function ends, is safe, and keeps its contract for all
   -- arguments. The call's answer, the record that the lent parts then hold and all bytes of its lent buffers are those of `defined`, and a
   -- refusal leaves every part as it was.
   pub panel-fresh-parts : fresh-parts.statement M

@@ -1,3 +1,2 @@
--- Laws of a fresh panel, and of the calls by value over those in place.
-pub mod Refusing
+-- Laws of the calls by value over those in place.
 pub mod ByValue

@@ -1,12 +1,9 @@
--- The record that the struct holds, what the answers of the calls by value say, and what a fresh panel in place is.
+-- The record that the struct holds, and what the answers of the calls by value say.
 use Prim.Native.Nat.{ℕ}
 use mathlib.Core.Path.{_≡_}
 use mathlib.Core.List.{List, []}
-use lib.ListN.{replicate}
 use Rattle.rules.specs.Panel.{Panel as Record}
 use Rattle.rules.specs.Results.{Result}
-use Rattle.rules.specs.Refusals.{freshNumber, freshRecord}
-use Rattle.slots.specs.Slots.{slotsLength}
 use Rattle.parts.specs.Record.{Parts, parts}
 use Rattle.parts.specs.Record.{recordOf as recordIn}
 use Rattle.panel.specs.declared.Panel.{Panel}
@@ -22,11 +19,6 @@ partsOf p = parts (p .own) (p .time) (p .high) (p .count) (p .marks) (p .barrier
 
 abbrev pub recordOf : Panel → Record
 recordOf p = recordIn (partsOf p)
-
--- what fresh answers in place, and leaves in the parts: the record that document 01 gives for that number, and slots of zeros
-abbrev pub FreshInPlace : ℕ → ℕ → Parts → Type 0
-FreshInPlace number answer after =
-    (answer ≡ freshNumber number) × (recordIn after ≡ freshRecord number) × (after .slots ≡ replicate slotsLength 0)
 
 -- ---- the answers of the calls by value: what a call has answered, given back, and left in the buffers lent to it
 

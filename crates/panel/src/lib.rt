@@ -1,16 +1,12 @@
-// The panel: its record as a struct, and the calls fresh, send, receive and clock, by value for callers
-// in Rattle (thin over those in place) and in place for C. No public function asks anything of its
-// caller; what each promises is that of document 01, for every argument.
+// The panel: its record as a struct, and the calls fresh, send, receive and clock by value, for callers
+// in Rattle, thin over those in place. No public function asks anything of its caller; what each
+// promises is that of document 01, for every argument.
 mod clock;
-mod exports;
 mod receive;
 mod send;
 
 pub use clock::panel_clock;
-pub use exports::panel_clock_parts;
-pub use exports::panel_fresh_parts;
-pub use exports::panel_receive_parts;
-pub use exports::panel_send_parts;
+use exports::panel_fresh_parts;
 pub use receive::panel_receive;
 pub use send::panel_send;
 ghost use mathlib.Core.Path.{_≡_};

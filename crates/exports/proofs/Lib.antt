@@ -1,0 +1,2 @@
+-- Laws of a fresh panel.
+pub mod Fresh

@@ -1,0 +1,2 @@
+-- What fresh does in place.
+pub mod Fresh

@@ -1,0 +1,129 @@
+// The calls in place for C, on a record that is lent in its parts; include/panel.h makes of them calls
+// on a pointer to the struct. Each may touch what the call may (fresh: every part).
+use clocking::clock_in_place;
+use parts::Answer;
+use receiving::receive_in_place;
+use sending::send_in_place;
+ghost use mathlib.Core.List.{[]};
+ghost use Rattle.rules.specs.Results.{send, receive, clock};
+ghost use Rattle.parts.specs.Record.{parts, PromisedInPlace};
+ghost use Rattle.exports.specs.Fresh.{FreshInPlace};
+
+// A fresh panel, with all bytes of its slots 0; for a number above 63 it is panel 0, with 11.
+#[no_mangle]
+pub extern "C" fn panel_fresh_parts(
+    number: u8,
+    own: &mut u8,
+    time: &mut u32,
+    high: &mut u32,
+    count: &mut usize,
+    marks: &mut [u32; 64],
+    barrier: &mut [u32; 64],
+    slots: &mut [u8; 9888],
+) -> u8
+    ensures { λ r. ⌜ FreshInPlace number r
+        (parts (now (own .exit)) (now (time .exit)) (now (high .exit)) (now (count .exit)) (now (marks .exit)) (now (barrier .exit)) (now (slots .exit))) ⌝ }
+{
+    *time = 0;
+    *high = 0;
+    *count = 0;
+    *marks = [0u32; 64];
+    *barrier = [0u32; 64];
+    *slots = [0u8; 9888];
+    if 63 < number {
+        *own = 0;
+        return 11;
+    }
+    *own = number;
+    0
+}
+
+// A payload is sent with a lifetime: its frame stands in the buffer, and the log records in the output.
+#[no_mangle]
+pub extern "C" fn panel_send_parts(
+    own: u8,
+    time: u32,
+    high: &mut u32,
+    count: &mut usize,
+    marks: &mut [u32; 64],
+    barrier: &mut [u32; 64],
+    slots: &mut [u8; 9888],
+    payload: &[u8],
+    lifetime: u16,
+    output: &mut [u8],
+    buffer: &mut [u8],
+) -> Answer
+    ensures { λ r. ⌜ PromisedInPlace
+        (parts own time (now (high .entry)) (now (count .entry)) (now (marks .entry)) (now (barrier .entry)) (now (slots .entry)))
+        (send (now (payload .entry)) lifetime (now (output .entry)) (now (buffer .entry))) r
+        (parts own time (now (high .exit)) (now (count .exit)) (now (marks .exit)) (now (barrier .exit)) (now (slots .exit)))
+        (now (output .exit)) (now (buffer .exit)) ⌝ }
+{
+    send_in_place(
+        own,
+        time,
+        high,
+        count,
+        marks,
+        barrier,
+        slots,
+        payload,
+        lifetime,
+        output,
+        buffer,
+    )
+}
+
+// A frame is received: the log records stand in the output.
+#[no_mangle]
+pub extern "C" fn panel_receive_parts(
+    own: u8,
+    time: u32,
+    high: &mut u32,
+    count: &mut usize,
+    marks: &mut [u32; 64],
+    barrier: &mut [u32; 64],
+    slots: &mut [u8; 9888],
+    frame: &[u8],
+    output: &mut [u8],
+) -> Answer
+    ensures { λ r. ⌜ PromisedInPlace
+        (parts own time (now (high .entry)) (now (count .entry)) (now (marks .entry)) (now (barrier .entry)) (now (slots .entry)))
+        (receive (now (frame .entry)) (now (output .entry))) r
+        (parts own time (now (high .exit)) (now (count .exit)) (now (marks .exit)) (now (barrier .exit)) (now (slots .exit)))
+        (now (output .exit)) [] ⌝ }
+{
+    receive_in_place(own, time, high, count, marks, barrier, slots, frame, output)
+}
+
+// The clock shows a time: the log records stand in the output.
+#[no_mangle]
+pub extern "C" fn panel_clock_parts(
+    own: u8,
+    time: &mut u32,
+    high: &mut u32,
+    count: &mut usize,
+    marks: &mut [u32; 64],
+    barrier: &mut [u32; 64],
+    slots: &mut [u8; 9888],
+    reading: u32,
+    output: &mut [u8],
+) -> Answer
+    ensures { λ r. ⌜ PromisedInPlace
+        (parts own (now (time .entry)) (now (high .entry)) (now (count .entry)) (now (marks .entry)) (now (barrier .entry)) (now (slots .entry)))
+        (clock reading (now (output .entry))) r
+        (parts own (now (time .exit)) (now (high .exit)) (now (count .exit)) (now (marks .exit)) (now (barrier .exit)) (now (slots .exit)))
+        (now (output .exit)) [] ⌝ }
+{
+    clock_in_place(
+        own,
+        time,
+        high,
+        count,
+        marks,
+        barrier,
+        slots,
+        reading,
+        output,
+    )
+}

@@ -7,7 +7,8 @@
 #     share/panel/panel.rs      the calls for Rust, over libpanel.a
 #
 # DESTDIR, if set, stands before PREFIX in all places written to, but not in panel.pc; AR chooses
-# the archiver. This is a script, and no Makefile, as rt sees by itself what has to be built anew.
+# the archiver. An archive is proved and built anew only where a file that it is made of, or the
+# kit, has changed. Nothing in target/ is looked at again otherwise: remove it to build from nothing.
 set -eu
 
 if [ $# -ne 1 ] || [ -z "$1" ]; then
@@ -27,6 +28,10 @@ cd "$(dirname "$0")"
 built=$PWD/target/libpanel
 ar=${AR:-ar}
 
+say() {
+    echo "install: $*" >&2
+}
+
 # quietly COMMAND..: shows what the command prints only if it fails.
 quietly() {
     "$@" >"$built/log" 2>&1 || {
@@ -36,11 +41,48 @@ quietly() {
     }
 }
 
+# below CRATE: the crate and all that it stands on, by crates.txt, without the kit's.
+below() {
+    awk -v crate="$1" '
+        /^#/ { next }
+        { sub(/:/, ""); name = $1; $1 = ""; needs[name] = $0 }
+        function visit(name, list, count, i) {
+            if (name in visited || !(name in needs)) return
+            visited[name]
+            print name
+            count = split(needs[name], list)
+            for (i = 1; i <= count; i++) visit(list[i])
+        }
+        END { visit(crate) }
+    ' crates.txt
+}
+
+# sources CRATE: the kit's identity, and the sum of each file that the crate's archive is made of.
+sources() {
+    rt version
+    for name in $(below "$1"); do
+        find "crates/$name" -name must-fail -prune -o -type f -exec sha256sum {} + | LC_ALL=C sort
+    done
+}
+
+# archive CRATE: proves the crate and builds target/staticlib/libCRATE.a.
+archive() {
+    sources "$1" >"$built/sources"
+    if [ -f "target/staticlib/lib$1.a" ] && cmp -s "$built/sources" "$built/$1.made"; then
+        say "$1 is as it was when it was last proved and built"
+        return
+    fi
+    rm -f "$built/$1.made"
+    say "proving and building $1, and what it stands on"
+    quietly rt staticlib "$1"
+    mv "$built/sources" "$built/$1.made"
+}
+
 # One archive, with the objects of four.
-rm -rf "$built"
 mkdir -p "$built"
-for crate in panel frame log_records bundle; do
-    quietly rt staticlib $crate
+rm -f "$built"/*.o "$built/libpanel.a"
+for crate in exports frame log_records bundle; do
+    archive $crate
     (cd "$built" && $ar x "../staticlib/lib$crate.a")
 done
 $ar crsD "$built/libpanel.a" "$built"/*.o
@@ -63,3 +105,4 @@ install -m 644 include/panel.h "$to/include/"
 install -m 644 "$built/libpanel.a" "$to/lib/"
 install -m 644 "$built/panel.pc" "$to/lib/pkgconfig/"
 install -m 644 examples/rust/panel.rs "$to/share/panel/"
+say "panel.h, libpanel.a, panel.pc and panel.rs stand under $to"

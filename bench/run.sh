@@ -7,9 +7,13 @@ set -e
 cd "$(dirname "$0")/.."
 calls=${1:-200000} rounds=${2:-200} seed=${3:-20240601}
 CC=${CC:-gcc}
-to=$PWD/target/install
+to=target/install
 built=target/bench
 flags="-O3 -std=c11 -D_GNU_SOURCE -Wall -Wextra -Werror"
+
+say() {
+    echo "bench: $*" >&2
+}
 
 # Shows what a command prints only if it fails.
 quietly() {
@@ -34,10 +38,12 @@ count() {
 }
 
 mkdir -p $built
-./install.sh "$to"
+./install.sh $to
+say "proving and building list, unless it is as it was"
 quietly rt check list
-$CC $flags -I"$to/include" -o $built/bench bench/*.c bench/agreement/*.c bench/table/*.c \
-    "$to/lib/libpanel.a" -lpthread
+say "building the benchmark"
+$CC $flags -I$to/include -o $built/bench bench/*.c bench/agreement/*.c bench/table/*.c \
+    $to/lib/libpanel.a -lpthread
 $CC $flags -o $built/list bench/list/list.c bench/reference.c
 $CC $flags -o $built/list_times bench/list/times.c bench/list/bundles.c
 
@@ -48,8 +54,12 @@ echo "rt          $(rt version)"
 echo "callgrind   $(valgrind --version 2>/dev/null || echo 'none: no instructions are counted')"
 echo
 
-[ "$calls" -eq 0 ] || $built/bench agreement "$calls" "$seed"
+if [ "$calls" -ne 0 ]; then
+    say "the agreement on $calls calls"
+    $built/bench agreement "$calls" "$seed"
+fi
 [ "$rounds" -ne 0 ] || exit 0
+say "counting instructions, then $rounds rounds of the table"
 if valgrind --version >/dev/null 2>&1 && count; then
     $built/bench table "$rounds" $built/counts
     counting=$tunables
@@ -59,5 +69,6 @@ else
 fi
 $built/bench stack
 echo
+say "list on bundles, $rounds rounds"
 cd $built
 exec ./list_times ../bin/list ./list "$rounds" "$counting"

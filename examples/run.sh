@@ -4,16 +4,18 @@
 # compiler.
 set -eu
 cd "$(dirname "$0")/.."
-to=$PWD/target/install
+to=target/install # and no whole path, so that a blank in it does no harm
 built=target/examples
 mkdir -p $built
-./install.sh "$to"
+./install.sh $to
 if command -v pkg-config >/dev/null; then
-    export PKG_CONFIG_PATH="$to/lib/pkgconfig"
-    flags=$(pkg-config --cflags panel) libs=$(pkg-config --libs panel)
+    export PKG_CONFIG_PATH=$to/lib/pkgconfig
+    flags=$(pkg-config --define-variable=prefix=$to --cflags panel)
+    libs=$(pkg-config --define-variable=prefix=$to --libs panel)
 else
     flags="-I$to/include" libs="-L$to/lib -lpanel"
 fi
+echo "examples: building the farm in C, and in Rust if there is a rustc" >&2
 
 # run NAME PROGRAM: runs the program and compares its text with farm.txt.
 run() {
@@ -30,8 +32,8 @@ run C $built/farm_c
 
 cat examples/farm.txt
 if command -v rustc >/dev/null; then
-    rustc --edition 2021 -O -D warnings --crate-type rlib -L native="$to/lib" \
-        --out-dir $built "$to/share/panel/panel.rs"
+    rustc --edition 2021 -O -D warnings --crate-type rlib -L native=$to/lib \
+        --out-dir $built $to/share/panel/panel.rs
     rustc --edition 2021 -O -D warnings --extern panel=$built/libpanel.rlib \
         -o $built/farm_rust examples/rust/farm.rs
     run Rust $built/farm_rust

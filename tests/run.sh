@@ -1,11 +1,16 @@
 #!/bin/sh
 # run.sh: installs the module to target/install, and tests what is installed there from C, C++ and
-# Rust, with each compiler that is there. CC and CXX choose others, as in CC="gcc-13 clang-17".
+# Rust, with each compiler that is there, and the program list. CC and CXX choose other compilers, as
+# in CC="gcc-13 clang-17". What is proved already is not proved again.
 set -eu
 cd "$(dirname "$0")/.."
-to=$PWD/target/install
+to=target/install # and no whole path, so that a blank in it does no harm
 built=target/tests
 warnings="-Wall -Wextra -Wpedantic -Wconversion -Werror"
+
+say() {
+    echo "tests: $*"
+}
 
 fail() {
     echo "tests: $*" >&2
@@ -20,13 +25,13 @@ there() {
 
 # The header, the archive and panel.pc agree.
 install_module() {
-    ./install.sh "$to"
+    ./install.sh $to
     flags="-I$to/include" libs="-L$to/lib -lpanel"
     version=$(sed -n 's/^#define PANEL_VERSION "\(.*\)"/\1/p' "$to/include/panel.h")
     if there pkg-config; then
-        export PKG_CONFIG_PATH="$to/lib/pkgconfig"
-        flags=$(pkg-config --cflags panel)
-        libs=$(pkg-config --libs panel)
+        export PKG_CONFIG_PATH=$to/lib/pkgconfig
+        flags=$(pkg-config --define-variable=prefix=$to --cflags panel)
+        libs=$(pkg-config --define-variable=prefix=$to --libs panel)
         [ "$(pkg-config --modversion panel)" = "$version" ] || fail "panel.pc has another version"
     fi
     needed=$(nm -u "$to/lib/libpanel.a" | sed -n 's/^ *U //p' | sort -u | tr '\n' ' ')
@@ -34,6 +39,19 @@ install_module() {
     'memcpy memset ' | 'memcpy ' | 'memset ' | '') ;;
     *) fail "libpanel.a needs $needed" ;;
     esac
+}
+
+# The program list: what it prints for each bundle of tests/list.
+test_list() {
+    rt check list >$built/log 2>&1 || fail "list is not proved: $(tail -n 3 $built/log)"
+    runs=0
+    for bundle in tests/list/*.in; do
+        expected=${bundle%.in}.out
+        target/bin/list <"$bundle" >$built/given || fail "list ends with status $? on $bundle"
+        cmp $expected $built/given || fail "list prints another text on $bundle than $expected"
+        runs=$((runs + 1))
+    done
+    say "list printed what it must on $runs bundles"
 }
 
 # The program in the comment at the head of the header.
@@ -77,8 +95,8 @@ test_cxx() {
 }
 
 test_rust() {
-    rustc --edition 2021 -O -D warnings --crate-type rlib -L native="$to/lib" --out-dir $built \
-        "$to/share/panel/panel.rs"
+    rustc --edition 2021 -O -D warnings --crate-type rlib -L native=$to/lib --out-dir $built \
+        $to/share/panel/panel.rs
     with_panel="--edition 2021 -D warnings --extern panel=$built/libpanel.rlib"
     rustc $with_panel -o $built/tests_rust tests/calls.rs
     $built/tests_rust
@@ -89,21 +107,27 @@ test_rust() {
 }
 
 mkdir -p $built
+say "installing the module to $to"
 install_module
+say "the program list"
+test_list
 tested=
 for cc in ${CC:-gcc clang}; do
     there "$cc" || continue
+    say "the calls from C, with $cc"
     test_c "$cc"
     tested="$tested $cc"
 done
-[ -n "$tested" ] || fail "there is no C compiler"
+[ -n "$tested" ] || fail "there is no C compiler: gcc or clang is needed"
 for cxx in ${CXX:-g++ clang++}; do
     there "$cxx" || continue
+    say "the calls from C++, with $cxx"
     test_cxx "$cxx"
     tested="$tested $cxx"
 done
 if there rustc; then
+    say "the calls from Rust"
     test_rust
     tested="$tested rustc"
 fi
-echo "tests: passed with$tested"
+say "passed with$tested"

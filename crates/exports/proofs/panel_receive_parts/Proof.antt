@@ -1,5 +1,5 @@
--- `exports::panel_receive_parts` meets its contract, which is that of the call that it makes. (The prover finds this by itself, as for the
--- other two; said here, a wrong version is refused at once.) Assumes nothing.
+-- `exports::panel_receive_parts` meets its contract, which is that of the call that it makes. (The prover finds this proof and the other two like it by
+-- itself; as they are written down, a wrong version is refused at once.) Assumes nothing.
 use borrow.Author.Needs.{needs}
 use Rattle.exports.proofs.panel_receive_parts.Statement.{statement}
 use Rattle.exports.proofs.panel_receive_parts.Tie as tie

@@ -13,7 +13,7 @@ use Rattle.frame.proofs.FirstOf.{Past, pass, stop}
 use Rattle.rules.specs.Panel.{Panel, lapsed, met, ready}
 use Rattle.rules.specs.Refusals.{isWaiting, messageChecks}
 use Rattle.slots.proofs.Held.{length-firstSlots}
-use Rattle.settling.specs.Record.{asking}
+use Rattle.choosing.specs.Choice.{asking}
 use Rattle.parts.specs.Record.{parts, recordOf}
 
 -- ready asks for the marks and the time alone

@@ -22,8 +22,9 @@ use Rattle.rules.proofs.Checks.{receive-passed}
 use Rattle.slots.specs.Slots.{Reads, Kept, held, firstSlots}
 use Rattle.slots.proofs.Held.{length-firstSlots}
 use Rattle.slots.proofs.Kept.{held-order}
-use Rattle.settling.specs.Record.{asking, Stage, stage, panelAt}
-use Rattle.settling.proofs.Holding.{length-readable}
+use Rattle.choosing.specs.Choice.{asking}
+use Rattle.handing.proofs.LogRecord.{length-readable}
+use Rattle.settling.specs.Record.{Stage, stage, panelAt}
 use Rattle.parts.specs.Record.{Parts, parts, recordOf, SettlesSlots}
 use Rattle.receiving.specs.Steps.{taking, handedAtOnce, Taken}
 use Rattle.receiving.proofs.MessageChecks.{ready-asking}

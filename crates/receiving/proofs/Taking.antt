@@ -20,8 +20,9 @@ use Rattle.slots.specs.Slots.{slotLength, Reads, Slots, Kept, held, firstSlots}
 use Rattle.slots.proofs.Ones.{onesIn-le}
 use Rattle.slots.proofs.Held.{carried-reads}
 use Rattle.slots.proofs.Kept.{listed-order, held-order, slots-put, held-put, kept-put}
+use Rattle.choosing.specs.Choice.{asking}
 use Rattle.settling.specs.declared.Settling.{Settling}
-use Rattle.settling.specs.Record.{asking, Stage, stage, panelAt, outputPlace}
+use Rattle.settling.specs.Record.{Stage, stage, panelAt, outputPlace}
 use Rattle.settling.proofs.Stages.{logged-none}
 use Rattle.receiving.specs.Steps.{taking, handedAtOnce, Taken}
 use Rattle.receiving.proofs.MessageChecks.{ready-asking}

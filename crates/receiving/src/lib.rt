@@ -1,13 +1,13 @@
 // Receive, in place on a lent record. Of the record it may touch high, count, marks, barrier and
 // slots, and beside it the output; own number and time it only reads. `receive_in_place` asks nothing
 // of its caller; what it promises is document 01's receive, for every argument.
+use choosing::ready;
 use frame::frame_check;
+use handing::hand;
 use parts::Answer;
 use parts::broken;
 use parts::settle_slots;
 use settling::Settling;
-use settling::hand;
-use settling::ready;
 use slots::deadline;
 use slots::in_order;
 use slots::is_waiting;
@@ -25,7 +25,8 @@ ghost use Rattle.rules.specs.Panel.{ready as isReady};
 ghost use Rattle.rules.specs.Refusals.{messageChecks};
 ghost use Rattle.rules.specs.Results.{receive};
 ghost use Rattle.slots.specs.Slots.{Reads, Slots, Kept, firstSlots};
-ghost use Rattle.settling.specs.Record.{asking, stage};
+ghost use Rattle.choosing.specs.Choice.{asking};
+ghost use Rattle.settling.specs.Record.{stage};
 ghost use Rattle.parts.specs.Record.{parts, recordOf, PromisedInPlace};
 ghost use Rattle.receiving.specs.Steps.{frameChecksOn, Taken};
 

@@ -2,10 +2,10 @@
 // and beside it the output and the frame buffer; own number and time it only reads. `send_in_place`
 // asks nothing of its caller; what it promises is document 01's send, for every argument.
 use frame::write;
+use handing::hand;
 use parts::Answer;
 use parts::broken;
 use parts::settle_slots;
-use settling::hand;
 use slots::in_order;
 ghost use mathlib.Core.Path.{_≡_};
 ghost use mathlib.Core.List.{[]};

@@ -1,8 +1,3 @@
--- Laws of settling: set bits of a mask, log records in the output, the choice among slots, and a step of settling.
-pub mod SetBits
-pub mod LogRecord
-pub mod OutputPart
-pub mod Holding
-pub mod Choosing
+-- Laws of settling: a place that leaves the list, and a step of settling.
 pub mod Leaving
 pub mod Stages

@@ -18,11 +18,13 @@ use Rattle.rules.specs.Settling.{choice, without, withWaiting, waitingAt, Settl
 use Rattle.rules.proofs.Choice.{choice-some}
 use Rattle.rules.proofs.Settling.{settle-step}
 use Rattle.slots.specs.Slots.{Listed, frameAt, held}
-use Rattle.settling.specs.Record.{asking, firstIn, Stage, stage, panelAt, outputPlace, Leaves, Settles, Logged}
+use Rattle.choosing.specs.Choice.{asking, firstIn}
+use Rattle.choosing.specs.declared.First.{First}
+use Rattle.choosing.proofs.Choosing.{firstIn-none, firstIn-some}
+use Rattle.choosing.proofs.Holding.{length-listed, held-at}
+use Rattle.handing.proofs.LogRecord.{length-readable}
+use Rattle.settling.specs.Record.{Stage, stage, panelAt, outputPlace, Leaves, Settles, Logged}
 use Rattle.settling.specs.declared.Settling.{Settling}
-use Rattle.settling.specs.declared.First.{First}
-use Rattle.settling.proofs.Choosing.{firstIn-none, firstIn-some}
-use Rattle.settling.proofs.Holding.{length-listed, held-at, length-readable}
 use Rattle.settling.proofs.Leaving.{take-leaves, listed-leaves, held-without}
 
 -- ---- one is handed

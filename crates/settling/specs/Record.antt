@@ -1,46 +1,18 @@
 -- The record while it settles, and what the functions on it ensure.
 use Prim.Native.Nat.{ℕ, _+_, _*_, _<_}
 use mathlib.Core.Path.{_≡_}
-use mathlib.Core.Bool.{Bool, true, false, cond, not, _&&_, _||_}
-use mathlib.Core.Option.{Option, none, some}
-use mathlib.Core.List.{List, []}
+use mathlib.Core.Bool.{cond}
+use mathlib.Core.List.{List}
 use lib.ListN.{length, getD, take}
-use lib.Dec.{ltb, eqb}
+use lib.Dec.{ltb}
 use Rattle.numbers.specs.Buffer.{over}
-use Rattle.frame.specs.Message.{Message, messageOf}
+use Rattle.frame.specs.Message.{Message}
 use Rattle.rules.specs.Sizes.{logRecordLength}
 use Rattle.rules.specs.Panel.{Panel}
 use Rattle.rules.specs.Handing.{logRecords}
 use Rattle.rules.specs.Settling.{settle}
 use Rattle.slots.specs.Slots.{Listed, held}
 use Rattle.settling.specs.declared.Settling.{Settling}
-use Rattle.settling.specs.declared.First.{First}
-
--- a record of these marks and this time, which is all that ready asks for
-abbrev pub asking : List ℕ → ℕ → Panel
-asking marks time = record { own = 0; time = time; high = 0; marks = marks; barrier = []; waiting = [] }
-
--- ---- the choice
-
--- what is found where that place of the list is chosen
-abbrev pub firstIn : List Message → Option ℕ → First
-firstIn ms none = record { found = false; place = 0; deadline = 0; source = 0 }
-firstIn ms (some place) =
-    let m = getD ms place (messageOf 0 0 [] []) in
-    record { found = true; place = place; deadline = m .deadline; source = m .source }
-
--- a message goes before the one found: it has a lower deadline, then a lower source
-abbrev pub goesBefore : ℕ → ℕ → First → Bool
-goesBefore deadline source first = ltb deadline (first .deadline) || eqb deadline (first .deadline) && ltb source (first .source)
-
--- a message at a place against the first among the earlier ones: it is the first, where it is ready and none was found or it goes before that one
-abbrev pub considered : Bool → ℕ → Message → First → First
-considered ready place m first =
-    cond ((not (first .found) || goesBefore (m .deadline) (m .source) first) && ready)
-    (record { found = true; place = place; deadline = m .deadline; source = m .source })
-    first
-
--- ---- settling
 
 -- where settling stands: what is left, and what is lent beside the slots
 pub record Stage : Type 0 where

@@ -5,7 +5,7 @@ use borrow.Author.Needs.{needs}
 use denote.Ref.{now}
 use Rattle.frame.specs.Reading.{messageIn}
 use Rattle.rules.specs.Panel.{ready}
-use Rattle.settling.specs.Record.{asking}
+use Rattle.choosing.specs.Choice.{asking}
 use Rattle.receiving.proofs.Taking.{room-unready, length-reads, taken-handed, taken-waiting}
 use Rattle.receiving.proofs.take.Statement.{statement}
 use Rattle.receiving.proofs.take.Tie as tie

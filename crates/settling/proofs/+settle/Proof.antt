@@ -14,14 +14,14 @@ use Rattle.settling.proofs.Stages.{HandedAt, oneHanded, handed-at, sett
 use Rattle.settling.proofs.settle.Reads as settle
 use Rattle.settling.proofs.settle.Kinds as settle-kinds
 use Rattle.settling.proofs.+settle.Lts-settle as settle-lts
-use Rattle.settling.proofs.choice.Reads as choice-reads
-use Rattle.settling.proofs.choice.Kinds as choice-kinds
+use Rattle.choosing.proofs.choice.Reads as choice-reads
+use Rattle.choosing.proofs.choice.Kinds as choice-kinds
 use Rattle.settling.proofs.leave.Reads as leave-reads
 use Rattle.settling.proofs.leave.Kinds as leave-kinds
 use Rattle.slots.proofs.kept_frame.Reads as kept-frame-reads
 use Rattle.slots.proofs.kept_frame.Kinds as kept-frame-kinds
-use Rattle.settling.proofs.hand.Reads as hand-reads
-use Rattle.settling.proofs.hand.Kinds as hand-kinds
+use Rattle.handing.proofs.hand.Reads as hand-reads
+use Rattle.handing.proofs.hand.Kinds as hand-kinds
 use Rattle.settling.proofs.+settle.{statement}
 use Rattle.settling.proofs.+settle.Tie.{close}
 

@@ -1,4 +1,4 @@
--- `settling::ready` meets its contract. Its loop's invariant is `MetBelow`: the entries of the panels so far are met. Assumes nothing.
+-- `choosing::ready` meets its contract. Its loop's invariant is `MetBelow`: the entries of the panels so far are met. Assumes nothing.
 mod Turns
 use mathlib.Core.Path.{_≡_, sym, _∙_, subst}
 use Prim.Native.Nat.{ℕ, _+_, _-_, _^_, _≤_, _<_}
@@ -10,10 +10,10 @@ use lib.ListN.{length, getD}
 use lib.Bits.{and-le-r}
 use Rattle.numbers.specs.Numbers.{numberAt}
 use Rattle.frame.proofs.Passed.{zero-passed}
-use Rattle.settling.proofs.SetBits.{next}
-use Rattle.settling.proofs.ready.Proof.Turns.{MetBelow, metBy, met-start, met-end, turn-lt, turn-room, turn-stop, turn-on}
-use Rattle.settling.proofs.ready.Statement.{statement}
-use Rattle.settling.proofs.ready.Tie as tie
+use Rattle.choosing.proofs.SetBits.{next}
+use Rattle.choosing.proofs.ready.Proof.Turns.{MetBelow, metBy, met-start, met-end, turn-lt, turn-room, turn-stop, turn-on}
+use Rattle.choosing.proofs.ready.Statement.{statement}
+use Rattle.choosing.proofs.ready.Tie as tie
 
 abbrev Inv-loop : tie.InvT-loop
 Inv-loop frame marks time bits₀ at₀ bits at = MetBelow frame marks time bits at

@@ -14,8 +14,8 @@ use Rattle.rules.specs.Panel.{Panel, ready, met, lapsed}
 use Rattle.rules.specs.Settling.{sooner, chosen, choice}
 use Rattle.rules.proofs.Choice.{choice-some, getD-default}
 use Rattle.rules.proofs.ChoiceUpwards.{getD-before, getD-last, chosenLast, choice-snoc}
-use Rattle.settling.specs.Record.{asking, firstIn, goesBefore, considered}
-use Rattle.settling.specs.declared.First.{First}
+use Rattle.choosing.specs.Choice.{asking, firstIn, goesBefore, considered}
+use Rattle.choosing.specs.declared.First.{First}
 
 -- ---- whether a message goes before the one found
 

@@ -1,8 +1,8 @@
--- `settling::is_met` meets its contract. Assumes nothing.
+-- `choosing::is_met` meets its contract. Assumes nothing.
 use borrow.Author.Tests.{le-leb, lt-leb}
 use Rattle.rules.specs.Panel.{met, lapsed}
-use Rattle.settling.proofs.is_met.Statement.{statement}
-use Rattle.settling.proofs.is_met.Tie as tie
+use Rattle.choosing.proofs.is_met.Statement.{statement}
+use Rattle.choosing.proofs.is_met.Tie as tie
 
 returns : tie.Need-returns
 unfolding met lapsed

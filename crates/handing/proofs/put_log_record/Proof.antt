@@ -1,4 +1,4 @@
--- `settling::put_log_record` meets its contract: each field goes behind those before it. Assumes nothing.
+-- `handing::put_log_record` meets its contract: each field goes behind those before it. Assumes nothing.
 use mathlib.Core.Path.{_≡_, sym, ap, _∙_}
 use mathlib.Core.List.{List}
 use Prim.Native.Nat.{ℕ, _+_, _-_, _*_, _≤_}
@@ -10,9 +10,9 @@ use lib.ListN.{length, take, drop}
 use Rattle.frame.specs.Reading.{countIn, messageIn}
 use Rattle.frame.proofs.Entries.{onesIn-ones}
 use Rattle.frame.proofs.Passed.{Passed, zero-passed, length-payload}
-use Rattle.settling.proofs.LogRecord.{part-payload, over-logRecord}
-use Rattle.settling.proofs.put_log_record.Statement.{statement}
-use Rattle.settling.proofs.put_log_record.Tie as tie
+use Rattle.handing.proofs.LogRecord.{part-payload, over-logRecord}
+use Rattle.handing.proofs.put_log_record.Statement.{statement}
+use Rattle.handing.proofs.put_log_record.Tie as tie
 
 abbrev bytes : tie.After-number-at → List ℕ
 bytes c = now (c .before .before .before .args .frame)

@@ -1,8 +1,8 @@
--- `settling::goes_before` meets its contract. Assumes nothing.
+-- `choosing::goes_before` meets its contract. Assumes nothing.
 use mathlib.Core.Path.{sym}
-use Rattle.settling.proofs.Choosing.{goesBefore-deadline, goesBefore-source}
-use Rattle.settling.proofs.goes_before.Statement.{statement}
-use Rattle.settling.proofs.goes_before.Tie as tie
+use Rattle.choosing.proofs.Choosing.{goesBefore-deadline, goesBefore-source}
+use Rattle.choosing.proofs.goes_before.Statement.{statement}
+use Rattle.choosing.proofs.goes_before.Tie as tie
 
 returns : tie.Need-returns
 returns c = let a = c .before .before .before .args in sym (goesBefore-deadline (a .deadline) (a .source) (a .first) (c .before .if1 .taken))

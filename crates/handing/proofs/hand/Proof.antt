@@ -1,4 +1,4 @@
--- `settling::hand` meets its contract: the part of the output given back is the output with the log record in it. Assumes nothing.
+-- `handing::hand` meets its contract: the part of the output given back is the output with the log record in it. Assumes nothing.
 use mathlib.Core.Path.{_≡_}
 use mathlib.Core.List.{List}
 use Prim.Native.Nat.{ℕ, _*_, _<_, max}
@@ -10,9 +10,9 @@ use Rattle.frame.specs.Message.{Message}
 use Rattle.frame.specs.Reading.{messageIn}
 use Rattle.frame.proofs.Passed.{zero-passed}
 use Rattle.rules.specs.Handing.{raise, logRecord}
-use Rattle.settling.proofs.OutputPart.{over-part}
-use Rattle.settling.proofs.hand.Statement.{statement}
-use Rattle.settling.proofs.hand.Tie as tie
+use Rattle.handing.proofs.OutputPart.{over-part}
+use Rattle.handing.proofs.hand.Statement.{statement}
+use Rattle.handing.proofs.hand.Tie as tie
 
 -- the number of a source becomes the larger one
 raised : (numbers : List ℕ) (m : Message) (source deadline number : ℕ) → source ≡ m .source → deadline ≡ m .deadline

@@ -1,15 +1,15 @@
--- `settling::choice` meets its contract: what is found so far is the choice among the messages before the place. Assumes nothing.
+-- `choosing::choice` meets its contract: what is found so far is the choice among the messages before the place. Assumes nothing.
 use mathlib.Core.Path.{_≡_, sym, _∙_}
 use Prim.Native.Nat.{_-_, _≤_}
 use native.Mathlib.Numerals.{add-one}
 use native.Mathlib.Omega.{arith}
 use lib.ListN.{length, take}
 use Rattle.slots.specs.Slots.{held}
-use Rattle.settling.specs.Record.{asking}
-use Rattle.settling.proofs.Choosing.{firstBelow, firstBelow-none, firstBelow-all}
-use Rattle.settling.proofs.Holding.{length-listed, firstBelow-listed}
-use Rattle.settling.proofs.choice.Statement.{statement}
-use Rattle.settling.proofs.choice.Tie as tie
+use Rattle.choosing.specs.Choice.{asking}
+use Rattle.choosing.proofs.Choosing.{firstBelow, firstBelow-none, firstBelow-all}
+use Rattle.choosing.proofs.Holding.{length-listed, firstBelow-listed}
+use Rattle.choosing.proofs.choice.Statement.{statement}
+use Rattle.choosing.proofs.choice.Tie as tie
 
 abbrev Inv-loop : tie.InvT-loop
 Inv-loop waiting places marks time slots first₀ place₀ first place =

@@ -1,4 +1,4 @@
--- `settling::put_zeros` meets its contract: after i turns the first i zeros are in place. Assumes nothing.
+-- `handing::put_zeros` meets its contract: after i turns the first i zeros are in place. Assumes nothing.
 use mathlib.Core.Path.{_≡_, refl, sym, ap, _∙_}
 use mathlib.Core.List.{List}
 use Prim.Native.Nat.{ℕ, suc, _+_, _-_, _≤_, _<_}
@@ -9,8 +9,8 @@ use denote.Ref.{now}
 use lib.ListN.{length, set, replicate, length-set, length-replicate, getD-replicate}
 use lib.Seq.{paste, paste-zero, paste-suc}
 use Rattle.numbers.proofs.Over.{over-paste}
-use Rattle.settling.proofs.put_zeros.Statement.{statement}
-use Rattle.settling.proofs.put_zeros.Tie as tie
+use Rattle.handing.proofs.put_zeros.Statement.{statement}
+use Rattle.handing.proofs.put_zeros.Tie as tie
 
 -- one zero more
 paste-zeros : (buffer : List ℕ) (at count i : ℕ) → at + count ≤ length buffer → i < count

@@ -7,27 +7,18 @@ use lib.ListN.{length, getD, take, List·getD-map}
 use lib.Seq.{length-take-le, getD-take}
 use Rattle.frame.specs.Message.{Message}
 use Rattle.frame.specs.Reading.{messageIn}
-use Rattle.frame.proofs.Passed.{zero-passed, length-payload}
-use Rattle.rules.specs.Sizes.{width, logRecordLength}
+use Rattle.rules.specs.Sizes.{width}
 use Rattle.rules.specs.Panel.{Panel, ready}
-use Rattle.rules.specs.Handing.{logRecord}
-use Rattle.rules.proofs.LogRecords.{length-logRecord}
-use Rattle.slots.specs.Slots.{Reads, Listed, frameAt, carried, held}
 use Rattle.rules.proofs.Choice.{getD-default}
+use Rattle.slots.specs.Slots.{Listed, frameAt, carried, held}
 use Rattle.slots.proofs.Held.{carried-reads, length-held}
-use Rattle.settling.specs.Record.{considered}
-use Rattle.settling.specs.declared.First.{First}
-use Rattle.settling.proofs.Choosing.{firstBelow, firstBelow-suc}
+use Rattle.choosing.specs.Choice.{considered}
+use Rattle.choosing.specs.declared.First.{First}
+use Rattle.choosing.proofs.Choosing.{firstBelow, firstBelow-suc}
 
 -- as many as are listed
 pub length-listed : (slots : List ℕ) (count : ℕ) (places : List ℕ) → count ≤ length places → length (held slots (take count places)) ≡ count
 length-listed slots count places h = length-held slots (take count places) ∙ length-take-le count places h
-
--- a log record has its full length
-pub length-readable : (bs : List ℕ) → Reads bs → length (logRecord (messageIn width bs)) ≡ logRecordLength
-length-readable bs r =
-    let p = zero-passed width bs r in
-    length-logRecord (messageIn width bs) (omega (arith, p .payload, length-payload width bs p))
 
 getD-held : (slots ws : List ℕ) (k : ℕ) (other : Message) → k < length ws → getD (held slots ws) k other ≡ carried (frameAt slots (getD ws k 0))
 unfolding held

@@ -1,4 +1,5 @@
--- The fields of a log record: the payload as a part of its frame, and each field put into a buffer behind those before it. Assumes nothing.
+-- The fields of a log record: its length, the payload as a part of its frame, and each field put into a buffer behind those before it. Assumes
+-- nothing.
 use mathlib.Core.Path.{_≡_, sym, ap, _∙_}
 use mathlib.Core.List.{List, _++_, append-assoc}
 use Prim.Native.Nat.{ℕ, _+_, _-_, _*_, _≤_}
@@ -11,7 +12,17 @@ use Rattle.numbers.proofs.BigEndian.{length-bigEndian}
 use Rattle.numbers.proofs.Over.{length-over, over-over, over-again}
 use Rattle.frame.specs.Message.{Message}
 use Rattle.frame.specs.Reading.{countIn, messageIn}
+use Rattle.frame.proofs.Passed.{zero-passed, length-payload}
+use Rattle.rules.specs.Sizes.{width, logRecordLength}
 use Rattle.rules.specs.Handing.{logRecord}
+use Rattle.rules.proofs.LogRecords.{length-logRecord}
+use Rattle.slots.specs.Slots.{Reads}
+
+-- a log record has its full length
+pub length-readable : (bs : List ℕ) → Reads bs → length (logRecord (messageIn width bs)) ≡ logRecordLength
+length-readable bs r =
+    let p = zero-passed width bs r in
+    length-logRecord (messageIn width bs) (omega (arith, p .payload, length-payload width bs p))
 
 -- what stands behind n entries and the length byte is the payload
 pub part-payload : (bs : List ℕ) (n : ℕ) → n ≡ countIn 4 bs → take (length bs - (19 + 4 * n)) (drop (19 + 4 * n) bs) ≡ messageIn 4 bs .payload

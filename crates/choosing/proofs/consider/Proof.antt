@@ -1,4 +1,4 @@
--- `settling::consider` meets its contract. Assumes nothing.
+-- `choosing::consider` meets its contract. Assumes nothing.
 use mathlib.Core.Path.{_≡_, sym, _∙_}
 use mathlib.Core.Bool.{true}
 use mathlib.Core.Logic.{⊎-elim}
@@ -9,10 +9,10 @@ use Rattle.frame.specs.Reading.{messageIn}
 use Rattle.rules.specs.Panel.{ready}
 use Rattle.slots.proofs.Framed.{reads-fits}
 use Rattle.slots.specs.Slots.{Reads, frameAt}
-use Rattle.settling.specs.Record.{asking}
-use Rattle.settling.proofs.Choosing.{asFirst, asFirst-none, asFirst-found, considered-later, considered-unready, considered-ready}
-use Rattle.settling.proofs.consider.Statement.{statement}
-use Rattle.settling.proofs.consider.Tie as tie
+use Rattle.choosing.specs.Choice.{asking}
+use Rattle.choosing.proofs.Choosing.{asFirst, asFirst-none, asFirst-found, considered-later, considered-unready, considered-ready}
+use Rattle.choosing.proofs.consider.Statement.{statement}
+use Rattle.choosing.proofs.consider.Tie as tie
 
 -- looking back: the start of the call, and the message in the slot
 abbrev start : tie.After-kept-frame → tie.Start

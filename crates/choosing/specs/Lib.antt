@@ -1,0 +1,2 @@
+-- The choice among waiting messages.
+pub mod Choice

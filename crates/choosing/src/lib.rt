@@ -1,0 +1,123 @@
+// The choice: which waiting messages are ready, and which of them goes first. An internal crate: its
+// functions ask their callers for slots that hold readable frames, and the calls of a panel, which
+// refuse any other record, give them.
+use numbers::number_at;
+use slots::deadline;
+use slots::kept_frame;
+use slots::source;
+ghost use mathlib.Core.Path.{_≡_};
+ghost use mathlib.Core.List.{[], _∷_};
+ghost use Prim.Native.Nat.{_<_};
+ghost use lib.ListN.{length, take};
+ghost use Rattle.frame.specs.Reading.{messageIn};
+ghost use Rattle.rules.specs.Panel.{met};
+ghost use Rattle.rules.specs.Panel.{ready as isReady};
+ghost use Rattle.rules.specs.Settling.{choice as choiceIn};
+ghost use Rattle.slots.specs.Slots.{Reads, Slots, Listed, held};
+ghost use Rattle.slots.specs.Slots.{frameAt as frameIn};
+ghost use Rattle.choosing.specs.Choice.{asking, firstIn, goesBefore, considered};
+
+// The message that goes first among those looked at, if one of them is ready.
+pub struct First {
+    pub found: bool,
+    pub place: usize,
+    pub deadline: u32,
+    pub source: u8,
+}
+
+// Whether an entry is met by its panel's mark, or has lapsed.
+fn is_met(entry: u32, mark: u32, time: u32) -> bool
+    ensures { λ r. ⌜ r ≡ met (asking (mark ∷ []) time) 0 entry ⌝ }
+{
+    if entry <= mark {
+        return true;
+    }
+    entry < time
+}
+
+// Whether the message of a readable frame is ready: from set bit to set bit of its mask.
+pub fn ready(frame: &[u8], marks: &[u32; 64], time: u32) -> bool
+    requires { ⌜ Reads (now frame) ⌝ }
+    ensures { λ r. ⌜ r ≡ isReady (asking (now (marks .entry)) time) (messageIn 4 (now (frame .entry))) ⌝ }
+{
+    let mut bits = number_at(frame, 10, 8);
+    let mut at = 18;
+    while bits != 0 {
+        let panel = u64::trailing_zeros(bits) as usize;
+        let entry = number_at(frame, at, 4) as u32;
+        if !is_met(entry, marks[panel], time) {
+            return false;
+        }
+        bits = bits & (bits - 1);
+        at += 4;
+    }
+    true
+}
+
+// Whether a message goes before the one found.
+fn goes_before(deadline: u32, source: u8, first: First) -> bool
+    ensures { λ r. ⌜ r ≡ goesBefore deadline source first ⌝ }
+{
+    if deadline != first.deadline {
+        return deadline < first.deadline;
+    }
+    source < first.source
+}
+
+// The message at that place of the list, which lies in that slot, against the one that goes first
+// among the earlier ones.
+fn consider<'a, 'b>(
+    first: First,
+    place: usize,
+    slot: usize,
+    slots: &'a [u8],
+    marks: &'b [u32; 64],
+    time: u32,
+) -> First
+    requires { ⌜ Slots (now slots) × (slot < 32) × Reads (frameIn (now slots) slot) ⌝ }
+    ensures { λ r. ⌜ r ≡ considered (isReady (asking (now (marks .entry)) time) (messageIn 4 (frameIn (now (slots .entry)) slot)))
+        place (messageIn 4 (frameIn (now (slots .entry)) slot)) first ⌝ }
+{
+    let frame = kept_frame(slots, slot);
+    if first.found {
+        if !goes_before(deadline(frame), source(frame), first) {
+            return first;
+        }
+    }
+    if !ready(frame, marks, time) {
+        return first;
+    }
+    First {
+        found: true,
+        place,
+        deadline: deadline(frame),
+        source: source(frame),
+    }
+}
+
+// The ready one of lowest deadline, then lowest source, then earliest in the list.
+pub fn choice<'a, 'b, 'c>(
+    waiting: usize,
+    places: &'a [u8; 32],
+    marks: &'b [u32; 64],
+    time: u32,
+    slots: &'c [u8],
+) -> First
+    requires { ⌜ Slots (now slots) × Listed (now slots) waiting (now places) × (length (now places) ≡ 32) ⌝ }
+    ensures { λ r. ⌜ r ≡ firstIn (held (now (slots .entry)) (take waiting (now (places .entry))))
+        (choiceIn (asking (now (marks .entry)) time) (held (now (slots .entry)) (take waiting (now (places .entry))))) ⌝ }
+{
+    let mut first = First {
+        found: false,
+        place: 0,
+        deadline: 0,
+        source: 0,
+    };
+    let mut place = 0;
+    while place < waiting {
+        let slot = places[place] as usize;
+        first = consider(first, place, slot, slots, marks, time);
+        place += 1;
+    }
+    first
+}

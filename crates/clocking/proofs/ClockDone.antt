@@ -12,7 +12,7 @@ use Rattle.rules.specs.Calls.{withTime, dropLapsed, clocking}
 use Rattle.rules.specs.Panel.{Panel as Record}
 use Rattle.rules.specs.Refusals.{broken, clockChecks}
 use Rattle.rules.specs.Results.{Promised, clock}
-use Rattle.slots.specs.Moves.{Alive}
+use Rattle.slots.specs.Alive.{Alive}
 use Rattle.slots.specs.declared.Places.{Places}
 use Rattle.settling.specs.declared.Settling.{Settling}
 use Rattle.settling.specs.Record.{Stage, stage, panelAt}

@@ -19,8 +19,9 @@ use Rattle.rules.proofs.Results.{defined-number}
 use Rattle.rules.proofs.Theorems.{refusal-unchanged}
 use Rattle.slots.specs.Slots.{Kept, held, firstSlots}
 use Rattle.slots.proofs.Held.{length-firstSlots}
-use Rattle.slots.specs.Moves.{Gathered}
-use Rattle.slots.proofs.Kept.{kept-readable, held-gathered}
+use Rattle.slots.proofs.Kept.{kept-readable}
+use Rattle.slot_moves.specs.Moves.{Gathered}
+use Rattle.slot_moves.proofs.Kept.{held-gathered}
 use Rattle.settling.specs.Record.{Stage, stage, panelAt, outputPlace, Settles}
 use Rattle.settling.specs.declared.Settling.{Settling}
 use Rattle.parts.specs.Record.{Parts, parts, recordOf, PromisedInPlace, SettlesSlots}

@@ -8,8 +8,8 @@
 // record: own, time, high, count, marks, barrier, slots. A part that a call never changes is given
 // by value, if it is a number.
 use settling::settle;
-use slots::all_read;
-use slots::gather;
+use slot_check::all_read;
+use slot_moves::gather;
 ghost use mathlib.Core.Path.{_≡_};
 ghost use Prim.Native.Nat.{_+_, _*_, _≤_};
 ghost use lib.ListN.{length};

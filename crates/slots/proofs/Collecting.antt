@@ -15,7 +15,7 @@ use Rattle.rules.specs.Sizes.{width}
 use Rattle.rules.specs.Panel.{Panel, lapsed}
 use Rattle.rules.specs.Calls.{alive}
 use Rattle.slots.specs.Slots.{Reads, frameAt, carried, held, upFrom, firstSlots}
-use Rattle.slots.specs.Moves.{Alive}
+use Rattle.slots.specs.Alive.{Alive}
 use Rattle.slots.specs.declared.Places.{Places}
 use Rattle.slots.proofs.Held.{carried-reads, held-append, held-suc}
 

@@ -1,16 +1,13 @@
--- Laws of `framed` and `frameAt`: the frame in a slot, and slots that are written. Assumes nothing.
-use mathlib.Core.Path.{_≡_, sym, ap, _∙_}
-use mathlib.Core.Bool.{Bool, true, false, cond}
+-- Laws of `framed` and `frameAt`: the frame in a slot. Assumes nothing.
+use mathlib.Core.Path.{_≡_, ap, _∙_}
 use mathlib.Core.List.{List, []}
 use Prim.Native.Nat.{ℕ, _+_, _*_, _≤_, _<_}
 use native.Mathlib.Nat.{lt-of-not-le, le-of-suc-le-suc}
 use native.Mathlib.Omega.{arith}
 use lib.ListN.{length, take, drop}
-use lib.Dec.{ltb}
-use lib.Seq.{drop-drop, drop-at, take-add, take-take, length-take-le}
+use lib.Seq.{drop-drop, drop-at, take-add, length-take-le}
 use borrow.Author.Tests.{le-ltb, lt-ltb}
-use Rattle.numbers.specs.Numbers.{Bytes, number, numberAt}
-use Rattle.numbers.proofs.Bytes.{Bytes-drop, Bytes-take}
+use Rattle.numbers.specs.Numbers.{numberAt}
 use Rattle.numbers.proofs.NumberAt.{numberAt-drop}
 use Rattle.frame.proofs.Passed.{zero-passed}
 use Rattle.rules.specs.Sizes.{width, bufferLength}
@@ -45,35 +42,7 @@ reads-fits slots slot reads = le-of-suc-le-suc (lt-of-not-le (λ (long : bufferL
     too-short : bufferLength < lengthAt slots slot → ⊥
     too-short long = omega (arith, ap length (frameAt-long slots slot long), zero-passed width (frameAt slots slot) reads .long)
 
--- ---- bytes
-
-Bytes-framed : (bs : List ℕ) → Bytes bs → Bytes (framed bs)
-unfolding framed
-Bytes-framed bs bytes = go (ltb bufferLength (numberAt bs 0 2)) (Bytes-take (numberAt bs 0 2) (drop 2 bs) (Bytes-drop 2 bs bytes))
-  where
-    go : (long : Bool) → Bytes (take (numberAt bs 0 2) (drop 2 bs)) → Bytes (cond long [] (take (numberAt bs 0 2) (drop 2 bs)))
-    go true inside = λ i. omega arith
-    go false inside = inside
-
-pub Bytes-frameAt : (slots : List ℕ) (slot : ℕ) → Bytes slots → Bytes (frameAt slots slot)
-unfolding frameAt
-Bytes-frameAt slots slot bytes = Bytes-framed (drop (slot * slotLength) slots) (Bytes-drop (slot * slotLength) slots bytes)
-
--- ---- the frame is settled by its length and so many bytes
+-- ---- a part of the first so many
 
 pub drop-take : (n k : ℕ) (l : List ℕ) → n ≤ length l → drop n (take (n + k) l) ≡ take k (drop n l)
 drop-take n k l le = rw (take-add n k l) (drop-at (take n l) (take k (drop n l)) n (length-take-le n l le))
-
-pub numberAt-take : (n : ℕ) (bs : List ℕ) → 2 ≤ n → numberAt (take n bs) 0 2 ≡ numberAt bs 0 2
-unfolding numberAt
-numberAt-take n bs le = ap number (take-take 2 n bs le)
-
-pub framed-same : (bs others : List ℕ) → 2 ≤ length bs → 2 ≤ length others
-    → take (2 + numberAt bs 0 2) others ≡ take (2 + numberAt bs 0 2) bs → framed others ≡ framed bs
-unfolding framed
-framed-same bs others two also e =
-    let k = numberAt bs 0 2 in
-    let n : numberAt others 0 2 ≡ k
-    = sym (numberAt-take (2 + k) others (omega arith)) ∙ ap (λ (l : List ℕ). numberAt l 0 2) e ∙ numberAt-take (2 + k) bs (omega arith) in
-    let f : take k (drop 2 others) ≡ take k (drop 2 bs) = sym (drop-take 2 k others also) ∙ ap (drop 2) e ∙ drop-take 2 k bs two in
-    rw (n, f)

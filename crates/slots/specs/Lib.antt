@@ -1,3 +1,3 @@
--- The waiting list in slots, and what the functions on it ensure.
+-- The waiting list in slots, and the slots of messages alive.
 pub mod Slots
-pub mod Moves
+pub mod Alive

@@ -1,4 +1,4 @@
--- `slots::all_read` meets its contract: at slot i the answer is that of the slots from i on. Assumes nothing.
+-- `slot_check::all_read` meets its contract: at slot i the answer is that of the slots from i on. Assumes nothing.
 use mathlib.Core.Path.{_≡_, sym, ap, _∙_}
 use mathlib.Core.List.{List}
 use Prim.Native.Nat.{ℕ, _-_, _*_}
@@ -12,12 +12,11 @@ use lib.ListN.{length, take, drop, length-drop}
 use lib.Seq.{take-all}
 use Rattle.rules.specs.Refusals.{eachReadable}
 use Rattle.frame.specs.Reading.{refusal}
 use Rattle.slots.specs.Slots.{frameAt, held, firstSlots}
-use Rattle.slots.proofs.Framed.{Bytes-frameAt}
 use Rattle.slots.proofs.Held.{between, between-all}
-use Rattle.slots.proofs.Tests.{eachReadable-next, eachReadable-stop, eachReadable-end}
-use Rattle.slots.proofs.all_read.Statement.{statement}
-use Rattle.slots.proofs.all_read.Tie as tie
+use Rattle.slot_check.proofs.Tests.{Bytes-frameAt, eachReadable-next, eachReadable-stop, eachReadable-end}
+use Rattle.slot_check.proofs.all_read.Statement.{statement}
+use Rattle.slot_check.proofs.all_read.Tie as tie
 
 abbrev Inv-loop : tie.InvT-loop
 Inv-loop slots count slot₀ slot = eachReadable (held slots (between slot count)) ≡ eachReadable (held slots (firstSlots count))

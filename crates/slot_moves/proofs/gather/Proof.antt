@@ -1,14 +1,14 @@
--- `slots::gather` meets its contract: after so many turns the first slots hold the frames of the places, and the others their own. Assumes nothing.
+-- `slot_moves::gather` meets its contract: after so many turns the first slots hold the frames of the places, and the others their own. Assumes nothing.
 use Prim.Native.Nat.{_-_, _≤_, _<_}
 use mathlib.Core.Logic.{⊎-elim}
 use native.Mathlib.Numerals.{add-one}
 use native.Mathlib.Omega.{arith}
 use lib.ListN.{getD}
 use Rattle.slots.specs.Slots.{lengthAt}
 use Rattle.slots.proofs.Framed.{reads-fits}
-use Rattle.slots.proofs.Gathering.{Moving, moving-none, reads-place, moving-stays, moving-moves}
-use Rattle.slots.proofs.gather.Statement.{statement}
-use Rattle.slots.proofs.gather.Tie as tie
+use Rattle.slot_moves.proofs.Gathering.{Moving, moving-none, reads-place, moving-stays, moving-moves}
+use Rattle.slot_moves.proofs.gather.Statement.{statement}
+use Rattle.slot_moves.proofs.gather.Tie as tie
 
 abbrev Inv-loop : tie.InvT-loop
 Inv-loop slots₀ places count slot₀ slots slot = (slot ≤ count) × Moving slots₀ places slot slots

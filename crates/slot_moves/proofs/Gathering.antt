@@ -11,9 +11,9 @@ use Rattle.numbers.specs.Numbers.{numberAt}
 use Rattle.numbers.specs.Buffer.{over}
 use Rattle.numbers.proofs.NumberAt.{numberAt-drop}
 use Rattle.numbers.proofs.Over.{length-over}
 use Rattle.slots.specs.Slots.{slotLength, Slots, Reads, Listed, frameAt, lengthAt}
-use Rattle.slots.proofs.Framed.{reads-fits, numberAt-take}
-use Rattle.slots.proofs.Writing.{frameAt-before, frameAt-behind, frameAt-here, framed-slot}
+use Rattle.slots.proofs.Framed.{reads-fits}
+use Rattle.slot_moves.proofs.Writing.{numberAt-take, frameAt-before, frameAt-behind, frameAt-here, framed-slot}
 
 -- the first slots hold the frames of the places, and the others their own
 pub record Moving (before places : List ℕ) (slot : ℕ) (slots : List ℕ) : Type 0 where

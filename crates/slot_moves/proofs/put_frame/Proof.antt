@@ -1,4 +1,4 @@
--- `slots::put_frame` meets its contract. Assumes nothing.
+-- `slot_moves::put_frame` meets its contract. Assumes nothing.
 use mathlib.Core.Path.{ap, _∙_}
 use mathlib.Core.List.{List}
 use Prim.Native.Nat.{ℕ, _+_, _*_}
@@ -9,8 +9,8 @@ use Rattle.numbers.specs.Buffer.{over}
 use Rattle.numbers.proofs.BigEndian.{length-bigEndian}
 use Rattle.numbers.proofs.Over.{over-over}
 use borrow.Author.Needs.{needs}
-use Rattle.slots.proofs.put_frame.Statement.{statement}
-use Rattle.slots.proofs.put_frame.Tie as tie
+use Rattle.slot_moves.proofs.put_frame.Statement.{statement}
+use Rattle.slot_moves.proofs.put_frame.Tie as tie
 
 mul-at : tie.Need-mul-at
 mul-at c = search needs

@@ -1,4 +1,4 @@
--- `slots::holds_frame` meets its contract: the answer is whether the numbers in the slot are those of a readable frame (`Holds`). The
+-- `slot_check::holds_frame` meets its contract: the answer is whether the numbers in the slot are those of a readable frame (`Holds`). The
 -- loop's invariant: as many entries are left as bits, and they decide. Assumes nothing.
 use mathlib.Core.Path.{_≡_, refl, sym, ap, _∙_}
 use mathlib.Core.Bool.{true, false, true≢false}
@@ -9,17 +9,16 @@ use borrow.Author.Needs.{needs}
 use borrow.Author.Tests.{ne-eqb}
 use denote.Ref.{now}
 use lib.Dec.{eqb}
-use lib.ListN.{length}
 use lib.Bits.{bitAnd, and-le-r}
 use lib.Count.{onesIn}
 use Rattle.numbers.specs.Numbers.{Bytes, numberAt, numbersAt}
 use Rattle.frame.specs.Reading.{eachEarlier, refusal}
 use Rattle.slots.specs.Slots.{framed}
 use Rattle.frame.proofs.EachNumber.{eachEarlier-none, eachEarlier-zero, eachEarlier-late, eachEarlier-next}
-use Rattle.slots.proofs.Ones.{onesIn-le, onesIn-none, onesIn-and}
-use Rattle.slots.proofs.InSlot.{countOf, payloadOf, Holds, holds-reads, reads-holds, eqb-both}
-use Rattle.slots.proofs.holds_frame.Statement.{statement}
-use Rattle.slots.proofs.holds_frame.Tie as tie
+use Rattle.slot_check.proofs.Ones.{onesIn-le, onesIn-none, onesIn-and}
+use Rattle.slot_check.proofs.InSlot.{countOf, payloadOf, Holds, holds-reads, reads-holds, eqb-both}
+use Rattle.slot_check.proofs.holds_frame.Statement.{statement}
+use Rattle.slot_check.proofs.holds_frame.Tie as tie
 
 abbrev Inv-loop : tie.InvT-loop
 Inv-loop slot head deadline bits₀ at₀ bits at =

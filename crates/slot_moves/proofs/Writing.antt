@@ -5,14 +5,14 @@ use Prim.Native.Nat.{ℕ, _+_, _-_, _*_, _≤_, _<_}
 use native.Mathlib.Omega.{arith}
 use lib.ListN.{length, getD, take, drop, length-append, length-drop}
 use lib.Seq.{paste, getD-drop, drop-drop, drop-at, drop-paste, take-all, take-take, take-append-le, drop-append-le, drop-append-add, length-take-le}
-use Rattle.numbers.specs.Numbers.{bigEndian, numberAt}
+use Rattle.numbers.specs.Numbers.{bigEndian, number, numberAt}
 use Rattle.numbers.specs.Buffer.{over}
 use Rattle.numbers.proofs.BigEndian.{length-bigEndian}
 use Rattle.numbers.proofs.NumberAt.{numberAt-drop, numberAt-bigEndian}
 use Rattle.numbers.proofs.Over.{length-over}
 use Rattle.rules.specs.Sizes.{bufferLength}
 use Rattle.slots.specs.Slots.{slotLength, framed, frameAt, lengthAt}
-use Rattle.slots.proofs.Framed.{framed-short, framed-same, drop-take}
+use Rattle.slots.proofs.Framed.{framed-short, drop-take}
 
 -- ---- bytes that are moved to a place before them
 
@@ -32,6 +32,22 @@ getD-paste bs to from n le lt =
 pub paste-over : (bs : List ℕ) (to : ℕ) (more : List ℕ) (n : ℕ) → n ≤ length more → paste bs to more n ≡ over bs to (take n more)
 unfolding over
 paste-over bs to more n le = rw (length-take-le n more le)
+
+-- ---- the frame is settled by its length and so many bytes
+
+pub numberAt-take : (n : ℕ) (bs : List ℕ) → 2 ≤ n → numberAt (take n bs) 0 2 ≡ numberAt bs 0 2
+unfolding numberAt
+numberAt-take n bs le = ap number (take-take 2 n bs le)
+
+pub framed-same : (bs others : List ℕ) → 2 ≤ length bs → 2 ≤ length others
+    → take (2 + numberAt bs 0 2) others ≡ take (2 + numberAt bs 0 2) bs → framed others ≡ framed bs
+unfolding framed
+framed-same bs others two also e =
+    let k = numberAt bs 0 2 in
+    let n : numberAt others 0 2 ≡ k
+    = sym (numberAt-take (2 + k) others (omega arith)) ∙ ap (λ (l : List ℕ). numberAt l 0 2) e ∙ numberAt-take (2 + k) bs (omega arith) in
+    let f : take k (drop 2 others) ≡ take k (drop 2 bs) = sym (drop-take 2 k others also) ∙ ap (drop 2) e ∙ drop-take 2 k bs two in
+    rw (n, f)
 
 -- ---- what stands before and behind the bytes put
 

@@ -1,13 +1,13 @@
--- `slots::move_bytes` meets its contract: after i turns the first i bytes have been copied. Assumes nothing.
+-- `slot_moves::move_bytes` meets its contract: after i turns the first i bytes have been copied. Assumes nothing.
 use mathlib.Core.Path.{_≡_, refl, ap, _∙_}
 use Prim.Native.Nat.{_+_, _-_, _≤_, _<_}
 use native.Mathlib.Numerals.{add-one}
 use native.Mathlib.Omega.{arith}
 use lib.ListN.{length, drop, length-set, length-drop}
 use lib.Seq.{paste, paste-zero, paste-suc}
-use Rattle.slots.proofs.Writing.{getD-paste, paste-over}
-use Rattle.slots.proofs.move_bytes.Statement.{statement}
-use Rattle.slots.proofs.move_bytes.Tie as tie
+use Rattle.slot_moves.proofs.Writing.{getD-paste, paste-over}
+use Rattle.slot_moves.proofs.move_bytes.Statement.{statement}
+use Rattle.slot_moves.proofs.move_bytes.Tie as tie
 
 abbrev Inv-loop : tie.InvT-loop
 Inv-loop slots₀ to from count i₀ slots i = (i ≤ count) × (slots ≡ paste slots₀ to (drop from slots₀) i) × (length slots ≡ length slots₀)

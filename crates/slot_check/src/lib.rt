@@ -1,0 +1,67 @@
+// Whether slots hold readable frames, the last thing that refusal 26 asks of a record. An internal
+// crate: its functions ask their callers for the bytes of slots.
+use numbers::number_at;
+ghost use mathlib.Core.Path.{_≡_};
+ghost use Prim.Native.Nat.{_≤_};
+ghost use lib.ListN.{length};
+ghost use lib.Dec.{eqb};
+ghost use Rattle.frame.specs.Reading.{refusal};
+ghost use Rattle.rules.specs.Refusals.{eachReadable};
+ghost use Rattle.slots.specs.Slots.{slotLength, framed, Slots, firstSlots, held};
+
+// The first eight bytes of a slot as one number: the unit of the length in it, and mark and version,
+// which are left of it without the length and the low six bits of the source.
+const LENGTH_UNIT: u64 = 0x1000000000000;
+
+const MARK_AND_VERSION: u64 = 0x4452590001 * 4;
+
+// Whether a slot, here with those behind it, holds a readable frame. It is what `frame_check` asks, in
+// another form for speed: the first eight bytes are one number, and since a slot has room for 64
+// entries, the length is compared last.
+fn holds_frame(slot: &[u8]) -> bool
+    requires { ⌜ slotLength ≤ length (now slot) ⌝ }
+    ensures { λ r. ⌜ r ≡ eqb (refusal 4 (framed (now (slot .entry)))) 0 ⌝ }
+{
+    let head = number_at(slot, 0, 8);
+    if head % LENGTH_UNIT / 64 != MARK_AND_VERSION {
+        return false;
+    }
+    let deadline = number_at(slot, 8, 4);
+    if deadline == 0 {
+        return false;
+    }
+    let mut bits = number_at(slot, 12, 8);
+    let mut at = 20;
+    while bits != 0 {
+        let entry = number_at(slot, at, 4);
+        if entry == 0 {
+            return false;
+        }
+        if deadline <= entry {
+            return false;
+        }
+        bits = bits & (bits - 1);
+        at += 4;
+    }
+    let length = number_at(slot, at, 1) as usize;
+    if 32 < length {
+        return false;
+    }
+    (head / LENGTH_UNIT) as usize + 1 == at + length
+}
+
+// Whether each of the first slots holds a readable frame.
+pub fn all_read(slots: &[u8], count: usize) -> bool
+    requires { ⌜ Slots (now slots) × (count ≤ 32) ⌝ }
+    ensures { λ r. ⌜ r ≡ eachReadable (held (now (slots .entry)) (firstSlots count)) ⌝ }
+{
+    let mut slot = 0;
+    while slot < count {
+        let at = slot * 309;
+        if !holds_frame(&slots[at..]) {
+            return false;
+        }
+        slot += 1;
+    }
+    true
+}

@@ -1,0 +1,2 @@
+-- Frames that move up.
+pub mod Moves

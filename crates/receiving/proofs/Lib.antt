@@ -1,5 +1,3 @@
--- Laws of a receive: its checks, taking a message, and its answer.
-pub mod MessageChecks
-pub mod Checking
+-- Laws of a receive: taking a message, and its answer.
 pub mod Taking
 pub mod ReceiveDone

@@ -27,7 +27,7 @@ use Rattle.handing.proofs.LogRecord.{length-readable}
 use Rattle.settling.specs.Record.{Stage, stage, panelAt}
 use Rattle.parts.specs.Record.{Parts, parts, recordOf, SettlesSlots}
 use Rattle.receiving.specs.Steps.{taking, handedAtOnce, Taken}
-use Rattle.receiving.proofs.MessageChecks.{ready-asking}
+use Rattle.checking.proofs.MessageChecks.{ready-asking}
 use Rattle.parts.proofs.Answering.{afterwards, settled-promised}
 
 -- the record as it begins, with what is lent beside the slots: all of the first slots are listed, nothing was handed

@@ -26,7 +26,7 @@ use Rattle.settling.specs.declared.Settling.{Settling}
 use Rattle.settling.specs.Record.{Stage, stage, panelAt, outputPlace}
 use Rattle.settling.proofs.Stages.{logged-none}
 use Rattle.receiving.specs.Steps.{taking, handedAtOnce, Taken}
-use Rattle.receiving.proofs.MessageChecks.{ready-asking}
+use Rattle.checking.proofs.MessageChecks.{ready-asking}
 
 -- ---- what is taken, by whether it is ready
 

@@ -1,21 +1,14 @@
 -- What the private functions of a receive promise. No promise of a public call cites it.
 use Prim.Native.Nat.{ℕ, _+_}
 use mathlib.Core.Path.{_≡_}
-use mathlib.Core.Bool.{Bool, cond}
+use mathlib.Core.Bool.{cond}
 use mathlib.Core.List.{List, [], _∷_, _++_}
-use lib.Dec.{ltb}
 use Rattle.frame.specs.Message.{Message}
-use Rattle.frame.specs.Reading.{checks}
-use Rattle.rules.specs.Sizes.{width, outputLength}
 use Rattle.rules.specs.Panel.{Panel as Record, ready}
 use Rattle.rules.specs.Handing.{hand}
 use Rattle.rules.specs.Settling.{withWaiting}
 use Rattle.slots.specs.Slots.{Slots, Listed}
 use Rattle.settling.specs.Record.{Stage, panelAt, Logged}
-
--- the checks before those of the message that was read, on what they ask for (`receiveChecks` of the rules is these and those)
-abbrev pub frameChecksOn : Bool → ℕ → List ℕ → List (Bool × ℕ)
-frameChecksOn broken output bytes = (broken, 26) ∷ (ltb output outputLength, 10) ∷ checks width bytes
 
 -- the record that has taken a message, and what was handed: that message, if it was ready
 abbrev pub taking : Record → Message → Record

@@ -1,84 +1,28 @@
 // Receive, in place on a lent record. Of the record it may touch high, count, marks, barrier and
 // slots, and beside it the output; own number and time it only reads. `receive_in_place` asks nothing
 // of its caller; what it promises is document 01's receive, for every argument.
+use checking::receive_number;
 use choosing::ready;
-use frame::frame_check;
 use handing::hand;
 use parts::Answer;
-use parts::broken;
 use parts::settle_slots;
 use settling::Settling;
 use slot_moves::put_frame;
-use slots::deadline;
 use slots::in_order;
-use slots::is_waiting;
-use slots::source;
 ghost use mathlib.Core.Path.{_≡_};
 ghost use mathlib.Core.Bool.{true};
 ghost use mathlib.Core.Logic.{_⊎_};
 ghost use mathlib.Core.List.{[]};
 ghost use Prim.Native.Nat.{_+_, _*_, _≤_, _<_};
 ghost use lib.ListN.{length};
-ghost use Rattle.frame.specs.Refusal.{firstOf};
 ghost use Rattle.frame.specs.Reading.{messageIn};
 ghost use Rattle.rules.specs.Panel.{ready as isReady};
-ghost use Rattle.rules.specs.Refusals.{messageChecks};
 ghost use Rattle.rules.specs.Results.{receive};
 ghost use Rattle.slots.specs.Slots.{Reads, Slots, Kept, firstSlots};
 ghost use Rattle.choosing.specs.Choice.{asking};
 ghost use Rattle.settling.specs.Record.{stage};
 ghost use Rattle.parts.specs.Record.{parts, recordOf, PromisedInPlace};
-ghost use Rattle.receiving.specs.Steps.{frameChecksOn, Taken};
-
-// The number of the first check that turns down a frame before its message is looked at, or 0: 26, 10, 1 to 8.
-fn frame_number(broken: bool, output: usize, frame: &[u8]) -> u8
-    ensures { λ r. ⌜ r ≡ firstOf (frameChecksOn broken output (now (frame .entry))) ⌝ }
-{
-    if broken {
-        return 26; // the record is broken
-    }
-    if output < 1254 {
-        return 10; // the output is short
-    }
-    frame_check(frame)
-}
-
-// The number of the first check that turns down a message that was read, or 0: 20, 21, 22, 23.
-fn message_number<'a, 'b>(
-    own: u8,
-    time: u32,
-    count: usize,
-    marks: &'a [u32; 64],
-    slots: &'a [u8],
-    frame: &'b [u8],
-) -> u8
-    requires { ⌜ Reads (now frame) × Slots (now slots) × Kept (now slots) count ⌝ }
-    ensures { λ r. ⌜ r ≡ firstOf (messageChecks (recordOf (parts own time 0 count (now (marks .entry)) [] (now (slots .entry))))
-        (messageIn 4 (now (frame .entry)))) ⌝ }
-{
-    let from = source(frame);
-    let due = deadline(frame);
-    let mark = marks[from as usize];
-    if from == own {
-        return 20; // its source is the own number
-    }
-    if due < time {
-        return 21; // it has lapsed
-    }
-    if due <= mark {
-        return 22; // its deadline is at most its source's mark
-    }
-    if is_waiting(frame, slots, count) {
-        return 22; // it is waiting already
-    }
-    if count < 32 {
-        return 0;
-    }
-    if ready(frame, marks, time) {
-        return 0;
-    }
-    23 // 32 are waiting and it is not ready
-}
+ghost use Rattle.receiving.specs.Steps.{Taken};
 
 // Takes the message of a readable frame: a ready one is handed without entering the list, any other
 // goes to its end.
@@ -127,11 +71,17 @@ pub fn receive_in_place(
         (parts own time (now (high .exit)) (now (count .exit)) (now (marks .exit)) (now (barrier .exit)) (now (slots .exit)))
         (now (output .exit)) [] ⌝ }
 {
-    let broken = broken(own, *high, *count, marks, barrier, slots);
-    let mut number = frame_number(broken, output.len(), frame);
-    if number == 0 {
-        number = message_number(own, time, *count, marks, slots, frame);
-    }
+    let number = receive_number(
+        own,
+        time,
+        *high,
+        *count,
+        marks,
+        barrier,
+        slots,
+        frame,
+        output,
+    );
     if number != 0 {
         return Answer {
             count: 0,

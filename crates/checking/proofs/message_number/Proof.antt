@@ -1,4 +1,4 @@
--- `receiving::message_number` meets its contract: at each `return` the checks before it passed, and its own applies or none is left. Assumes nothing.
+-- `checking::message_number` meets its contract: at each `return` the checks before it passed, and its own applies or none is left. Assumes nothing.
 use mathlib.Core.Path.{_≡_, sym, ap, _∙_}
 use mathlib.Core.Bool.{false}
 use Prim.Native.Nat.{ℕ, _≤_, _<_}
@@ -11,9 +11,9 @@ use Rattle.frame.specs.Reading.{messageIn}
 use Rattle.frame.proofs.Passed.{zero-passed}
 use Rattle.rules.specs.Refusals.{isWaiting}
 use Rattle.slots.specs.Slots.{held, firstSlots}
-use Rattle.receiving.proofs.MessageChecks.{number-own, number-lapsed, number-reached, number-waiting, number-room, number-ready, number-full}
-use Rattle.receiving.proofs.message_number.Statement.{statement}
-use Rattle.receiving.proofs.message_number.Tie as tie
+use Rattle.checking.proofs.MessageChecks.{number-own, number-lapsed, number-reached, number-waiting, number-room, number-ready, number-full}
+use Rattle.checking.proofs.message_number.Statement.{statement}
+use Rattle.checking.proofs.message_number.Tie as tie
 
 abbrev start : tie.After-deadline → tie.Start
 start c = c .before .before .before .before

@@ -1,9 +1,9 @@
--- `receiving::frame_number` meets its contract: each return is the first check that applies. Assumes nothing.
+-- `checking::frame_number` meets its contract: each return is the first check that applies. Assumes nothing.
 use borrow.Author.Needs.{needs}
 use borrow.Author.Tests.{lt-ltb, le-ltb}
 use Rattle.frame.specs.Refusal.{firstOf}
-use Rattle.receiving.proofs.frame_number.Statement.{statement}
-use Rattle.receiving.proofs.frame_number.Tie as tie
+use Rattle.checking.proofs.frame_number.Statement.{statement}
+use Rattle.checking.proofs.frame_number.Tie as tie
 
 returns : tie.Need-returns
 unfolding firstOf

@@ -12,7 +12,7 @@ use Rattle.rules.specs.Panel.{Panel}
 use Rattle.rules.specs.Refusals.{broken, messageChecks, receiveChecks}
 use Rattle.rules.proofs.Checks.{Valid, broken-false}
 use Rattle.slots.specs.Slots.{Reads}
-use Rattle.receiving.specs.Steps.{frameChecksOn}
+use Rattle.checking.specs.Checks.{frameChecksOn}
 
 pub receiveChecks-on : (p : Panel) (bytes output : List ℕ)
     → frameChecksOn (broken p) (length output) bytes ++ messageChecks p (messageIn width bytes) ≡ receiveChecks p bytes output

@@ -1,0 +1,3 @@
+-- Laws of the checks of a receive.
+pub mod MessageChecks
+pub mod Checking

@@ -1,0 +1,2 @@
+-- The checks before those of the message.
+pub mod Checks

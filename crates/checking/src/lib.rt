@@ -1,0 +1,91 @@
+// The checks of a receive: the number of the first that turns a frame down, on a record that is only
+// read. An internal crate: its functions ask for slots, and the last of the checks for a readable frame.
+use choosing::ready;
+use frame::frame_check;
+use parts::broken;
+use slots::deadline;
+use slots::is_waiting;
+use slots::source;
+ghost use mathlib.Core.Path.{_≡_};
+ghost use mathlib.Core.List.{[]};
+ghost use Rattle.frame.specs.Refusal.{firstOf};
+ghost use Rattle.frame.specs.Reading.{messageIn};
+ghost use Rattle.rules.specs.Refusals.{messageChecks, receiveChecks};
+ghost use Rattle.slots.specs.Slots.{Reads, Slots, Kept};
+ghost use Rattle.parts.specs.Record.{parts, recordOf};
+ghost use Rattle.checking.specs.Checks.{frameChecksOn};
+
+// The number of the first check that turns down a frame before its message is looked at, or 0: 26, 10, 1 to 8.
+fn frame_number(broken: bool, output: usize, frame: &[u8]) -> u8
+    ensures { λ r. ⌜ r ≡ firstOf (frameChecksOn broken output (now (frame .entry))) ⌝ }
+{
+    if broken {
+        return 26; // the record is broken
+    }
+    if output < 1254 {
+        return 10; // the output is short
+    }
+    frame_check(frame)
+}
+
+// The number of the first check that turns down a message that was read, or 0: 20, 21, 22, 23.
+fn message_number<'a, 'b>(
+    own: u8,
+    time: u32,
+    count: usize,
+    marks: &'a [u32; 64],
+    slots: &'a [u8],
+    frame: &'b [u8],
+) -> u8
+    requires { ⌜ Reads (now frame) × Slots (now slots) × Kept (now slots) count ⌝ }
+    ensures { λ r. ⌜ r ≡ firstOf (messageChecks (recordOf (parts own time 0 count (now (marks .entry)) [] (now (slots .entry))))
+        (messageIn 4 (now (frame .entry)))) ⌝ }
+{
+    let from = source(frame);
+    let due = deadline(frame);
+    let mark = marks[from as usize];
+    if from == own {
+        return 20; // its source is the own number
+    }
+    if due < time {
+        return 21; // it has lapsed
+    }
+    if due <= mark {
+        return 22; // its deadline is at most its source's mark
+    }
+    if is_waiting(frame, slots, count) {
+        return 22; // it is waiting already
+    }
+    if count < 32 {
+        return 0;
+    }
+    if ready(frame, marks, time) {
+        return 0;
+    }
+    23 // 32 are waiting and it is not ready
+}
+
+// The number of the first check that turns down a frame, or 0: 26, 10, 1 to 8, 20, 21, 22, 23.
+pub fn receive_number<'a, 'b>(
+    own: u8,
+    time: u32,
+    high: u32,
+    count: usize,
+    marks: &'a [u32; 64],
+    barrier: &'a [u32; 64],
+    slots: &'a [u8],
+    frame: &'b [u8],
+    output: &'b [u8],
+) -> u8
+    requires { ⌜ Slots (now slots) ⌝ }
+    ensures { λ r. ⌜ r ≡ firstOf (receiveChecks
+        (recordOf (parts own time high count (now (marks .entry)) (now (barrier .entry)) (now (slots .entry))))
+        (now (frame .entry)) (now (output .entry))) ⌝ }
+{
+    let broken = broken(own, high, count, marks, barrier, slots);
+    let number = frame_number(broken, output.len(), frame);
+    if number != 0 {
+        return number;
+    }
+    message_number(own, time, count, marks, slots, frame)
+}

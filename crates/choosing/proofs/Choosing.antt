@@ -39,8 +39,9 @@ asFirst m first = not (first .found) || goesBefore (m .deadline) (m .source) fir
 pub asFirst-none : (m : Message) (first : First) → first .found ≡ false → asFirst m first ≡ true
 asFirst-none m first e = rw e
 
-pub asFirst-found : (m : Message) (first : First) → first .found ≡ true → asFirst m first ≡ goesBefore (m .deadline) (m .source) first
-asFirst-found m first e = rw e
+pub asFirst-found : (m : Message) (first : First) (goes : Bool) → first .found ≡ true → goes ≡ goesBefore (m .deadline) (m .source) first
+    → asFirst m first ≡ goes
+asFirst-found m first goes e is = rw e (sym is)
 
 module _ (r : Bool) (place : ℕ) (m : Message) (first : First) where
   pub considered-later : asFirst m first ≡ false → considered r place m first ≡ first

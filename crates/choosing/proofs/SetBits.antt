@@ -36,7 +36,7 @@ bit-trailing (suc k) bits pos fits = go (λ pos′. bit-trailing k (bits / 2) po
 trailing-shifted : (k n bits : ℕ) → trailingZeros (n + k) (bits * 2 ^ n) ≡ n + trailingZeros k bits
 unfolding trailingZeros
 trailing-shifted k zero bits = rw (mul-one, zero-add k, zero-add)
-trailing-shifted k (suc n) bits = rw (suc-add, suc-add, shifted-even bits n, shifted-half bits n) (ap suc (trailing-shifted k n bits))
+trailing-shifted k (suc n) bits = rw (suc-add n k, suc-add n (trailingZeros k bits), shifted-even bits n, shifted-half bits n) (ap suc (trailing-shifted k n bits))
 
 -- the bits from a place on, where they stand
 abbrev pub from : ℕ → ℕ → ℕ

@@ -32,7 +32,7 @@ first-so-far c =
     ⊎-elim
     (λ w.
     let goes = rw (w .1 .ensures, w .2 .ensures, c .before .kept-frame .ensures) at (w .3 .ensures) in
-    asFirst-found (m s) (s .args .first) (w .0 .taken) ∙ sym goes ∙ not-false _ (w .4 .left))
+    asFirst-found (m s) (s .args .first) _ (w .0 .taken) goes ∙ not-false _ (w .4 .left))
     (λ w. asFirst-none (m s) (s .args .first) (w .left))
     (c .if1 .came)
 
@@ -58,7 +58,7 @@ returns c =
     let kept = goes .before .before .before .before in
     let s = start kept in
     let not-before = rw (goes .before .before .deadline .ensures, goes .before .source .ensures, kept .kept-frame .ensures) at (goes .goes-before .ensures) in
-    sym (considered-later _ _ (m s) (s .args .first) (asFirst-found (m s) (s .args .first) (goes .before .before .before .if1 .taken) ∙ sym not-before ∙ not-true _ (c .if2 .taken)))
+    sym (considered-later _ _ (m s) (s .args .first) (asFirst-found (m s) (s .args .first) _ (goes .before .before .before .if1 .taken) not-before ∙ not-true _ (c .if2 .taken)))
 
 ready-requires : tie.Need-ready-requires
 ready-requires c κs = reads (c .before)

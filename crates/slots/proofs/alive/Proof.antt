@@ -58,7 +58,7 @@ loop-again c =
     ⊎-elim
     (λ w. (
       omega arith,
-      rw (w .1, w .2, add-one, add-one) (chosen-alive _ _ _ _ _ (l .inv .1) reads (omega (arith, l .inv .1 .few, s .pre .1 .few, l .inv .2)) (omega (arith, due, w .0 .taken))),
+      rw (w .1, w .2, add-one (l .slot), add-one (l .kept)) (chosen-alive _ _ _ _ _ (l .inv .1) reads (omega (arith, l .inv .1 .few, s .pre .1 .few, l .inv .2)) (omega (arith, due, w .0 .taken))),
       rw (w .1, length-set) (l .inv .2),
     ))
     (λ w. (omega arith, rw (w .1, w .2, add-one) (chosen-lapsed _ _ _ _ _ (l .inv .1) reads (omega (arith, due, w .0 .left))), rw (w .1) (l .inv .2)))

@@ -50,7 +50,7 @@ zeros-split n size le =
     sym (replicate-append-replicate size (n - size) 0 ∙ ap zeros all)
 
 -- the payload goes over zeros
-pub over-logRecord : (buffer : List ℕ) (m : Message) (size : ℕ) → size ≡ length (m .payload) → size ≤ 32 → 38 ≤ length buffer
+over-logRecord : (buffer : List ℕ) (m : Message) (size : ℕ) → size ≡ length (m .payload) → size ≤ 32 → 38 ≤ length buffer
     → over
     (over (over (over (over buffer 0 (bigEndian 1 (m .source))) 1 (bigEndian 4 (m .deadline))) 5 (bigEndian 1 size)) 6 (replicate 32 0))
     6
@@ -68,3 +68,11 @@ over-logRecord buffer m size e few room =
     ∙ over-over buffer 0 front 6 (m .payload ++ zeros (32 - size)) (omega arith) (omega arith)
     ∙ ap (over buffer 0) (sym (append-assoc front (m .payload) (zeros (32 - size))))
     ∙ ap (λ (n : ℕ). over buffer 0 (head (m .source) (m .deadline) n ++ m .payload ++ zeros (32 - n))) e
+
+-- a buffer into which each field was put, one after the other
+pub put-logRecord : (buffer : List ℕ) (m : Message) {source deadline size : ℕ} {payload first second third fourth last : List ℕ}
+    → source ≡ m .source → deadline ≡ m .deadline → size ≡ length (m .payload) → payload ≡ m .payload → size ≤ 32 → 38 ≤ length buffer
+    → first ≡ over buffer 0 (bigEndian 1 source) → second ≡ over first 1 (bigEndian 4 deadline) → third ≡ over second 5 (bigEndian 1 size)
+    → fourth ≡ over third 6 (replicate 32 0) → last ≡ over fourth 6 payload → last ≡ over buffer 0 (logRecord m)
+put-logRecord buffer m {size = size} s d e p few room e₁ e₂ e₃ e₄ e₅ =
+    rw (e₅, e₄, e₃, e₂, e₁, s, d, p) (over-logRecord buffer m size e few room)

@@ -10,7 +10,7 @@ use lib.ListN.{length, take, drop}
 use Rattle.frame.specs.Reading.{countIn, messageIn}
 use Rattle.frame.proofs.Entries.{onesIn-ones}
 use Rattle.frame.proofs.Passed.{Passed, zero-passed, length-payload}
-use Rattle.handing.proofs.LogRecord.{part-payload, over-logRecord}
+use Rattle.handing.proofs.LogRecord.{part-payload, put-logRecord}
 use Rattle.handing.proofs.put_log_record.Statement.{statement}
 use Rattle.handing.proofs.put_log_record.Tie as tie
 
@@ -114,17 +114,9 @@ returns c =
     let put1 = put2 .before .before .before .before .before in
     let mask = mask5 (put5 .before .before) in
     let s = mask .before .before .before in
-    put5 .put-bytes .ensures
-    ∙ rw (
-      put4 .put-zeros .ensures,
-      put3 .put-number3 .ensures,
-      put2 .put-number2 .ensures,
-      put1 .put-number .ensures,
-      put2 .before .deadline .ensures,
-      put1 .before .source .ensures,
-      part mask,
-    )
-    (over-logRecord (now (s .args .part)) (messageIn 4 (bytes mask)) (length (bytes mask) - start mask) (sized mask) (fits mask) (s .pre .0))
+    put-logRecord (now (s .args .part)) (messageIn 4 (bytes mask)) (put1 .before .source .ensures) (put2 .before .deadline .ensures)
+    (sized mask) (part mask) (fits mask) (s .pre .0)
+    (put1 .put-number .ensures) (put2 .put-number2 .ensures) (put3 .put-number3 .ensures) (put4 .put-zeros .ensures) (put5 .put-bytes .ensures)
 
 pub put-log-record-spec : {M : Type 1} → statement M
 put-log-record-spec =

@@ -6,8 +6,7 @@ use Prim.Native.Nat.{ℕ, zero, suc, _+_, _-_, _≤_, _<_}
 use native.Mathlib.Numerals.{sub-one}
 use native.Mathlib.Omega.{arith}
 use lib.Dec.{ltb}
-use lib.ListN.{length, getD, drop, drop-of-length-le}
-use lib.Seq.{drop-cons}
+use lib.ListN.{length, getD}
 use borrow.Author.Tests.{lt-ltb, le-ltb, ltb-true, ltb-false}
 use Rattle.numbers.specs.Numbers.{numberAt, numbersAt}
 use Rattle.frame.specs.Reading.{eachEarlier}
@@ -78,21 +77,3 @@ module _ (limit : ℕ) where
   unfolding eachBelow
   lt-eachBelow [] h = refl
   lt-eachBelow (n ∷ ns) h = simp (lt-ltb n limit (h 0 (omega arith)), lt-eachBelow ns (λ i l. h (suc i) (omega arith)))
-
-  -- one that is not below, at any place
-  pub eachBelow-not : (ns : List ℕ) (i : ℕ) → i < length ns → limit ≤ getD ns i 0 → eachBelow limit ns ≡ false
-  unfolding eachBelow
-  eachBelow-not [] i l h = absurd (omega arith)
-  eachBelow-not (n ∷ ns) zero l h = simp (le-ltb n limit h)
-  eachBelow-not (n ∷ ns) (suc i) l h = simp (eachBelow-not ns i (omega arith) h, and-false)
-
-  -- those behind place i, to a loop that goes down
-  pub eachBelow-none : (ns : List ℕ) (i : ℕ) → length ns ≤ i → eachBelow limit (drop i ns) ≡ true
-  unfolding eachBelow
-  eachBelow-none ns i h = rw (drop-of-length-le ns h)
-
-  pub eachBelow-next : (ns : List ℕ) (i : ℕ) → 0 < i → i ≤ length ns → getD ns (i - 1) 0 < limit
-      → eachBelow limit (drop (i - 1) ns) ≡ eachBelow limit (drop i ns)
-  unfolding eachBelow
-  eachBelow-next ns zero pos l h = absurd (omega arith)
-  eachBelow-next ns (suc i) pos l h = rw (sub-one, drop-cons ns i 0 l) (simp (lt-ltb (getD ns i 0) limit (rw sub-one at h)))

@@ -7,5 +7,4 @@ pub mod Panels
 pub mod Readable
 pub mod Passed
 pub mod Places
-pub mod Written
 pub mod Theorems

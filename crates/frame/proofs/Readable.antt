@@ -1,6 +1,6 @@
--- What `readable` says of a message, and how code finds it, test by test. Assumes nothing.
+-- What `readable` says of a message. Assumes nothing.
 use mathlib.Core.Path.{_≡_}
-use mathlib.Core.Bool.{true, false, and-true, and-false}
+use mathlib.Core.Bool.{true, false, and-false}
 use Prim.Native.Nat.{ℕ, _^_, _≤_, _<_}
 use native.Mathlib.Omega.{arith}
 use lib.Dec.{ltb, leb, eqb}
@@ -54,32 +54,7 @@ true-readable width m e =
       bytes = eachBelow-lt 256 (m .payload) (omega arith) (t6 .1);
     }
 
--- ---- test by test
-
-module _ (width : ℕ) (m : Message) where
-  pub readable-source : 63 < m .source → readable width m ≡ false
-  unfolding readable
-  readable-source h = simp (le-ltb (m .source) 64 h)
-
-  pub readable-deadline : m .deadline ≡ 0 → readable width m ≡ false
-  unfolding readable
-  readable-deadline e = simp (le-ltb 0 (m .deadline) (omega arith), and-false)
-
-  pub readable-entries : eachBelow (m .deadline) (m .entries) ≡ false → readable width m ≡ false
-  unfolding readable
-  readable-entries e = simp (e, and-false)
-
-  -- the last test decides where the others hold
-  pub readable-payload : m .source ≤ 63 → (m .deadline ≡ 0 → ⊥) → m .deadline < 256 ^ width → length (m .entries) ≡ 64
-      → eachBelow (m .deadline) (m .entries) ≡ true → Bytes (m .payload) → leb (length (m .payload)) 32 ≡ readable width m
-  unfolding readable
-  readable-payload s d fits panels e b =
-      simp (
-        lt-ltb (m .source) 64 (omega arith),
-        lt-ltb 0 (m .deadline) (omega arith),
-        lt-ltb (m .deadline) (256 ^ width) fits,
-        eq-eqb (length (m .entries)) 64 panels,
-        e,
-        lt-eachBelow 256 (m .payload) (λ i l. b i),
-        and-true,
-      )
+-- a message of deadline 0 has no frame
+pub readable-deadline : (width : ℕ) (m : Message) → m .deadline ≡ 0 → readable width m ≡ false
+unfolding readable
+readable-deadline width m e = simp (le-ltb 0 (m .deadline) (omega arith), and-false)

@@ -1,29 +1,23 @@
 -- What is shown of frames as a whole, for every width of a deadline that frames can have. Assumes nothing.
-use mathlib.Core.Path.{_≡_, sym, ap, ap₂, _∙_}
+use mathlib.Core.Path.{_≡_, sym, ap, _∙_}
 use mathlib.Core.Logic.{_↔_}
 use mathlib.Core.Bool.{true}
 use mathlib.Core.List.{List}
 use Prim.Native.Nat.{ℕ, _+_, _*_, _/_, _%_, _^_, _≤_, _<_}
 use native.Mathlib.Nat.{zero-mul, one-mul}
 use native.Mathlib.Omega.{arith}
-use lib.Dec.{leb}
-use lib.ListN.{length, getD, take}
+use lib.ListN.{length, getD}
 use lib.Count.{onesIn}
-use borrow.Author.Tests.{leb-true}
 use Rattle.numbers.specs.Numbers.{Bytes, numberAt}
 use Rattle.numbers.proofs.NumberAt.{getD-numbersAt}
-use Rattle.numbers.proofs.Over.{take-over}
 use Rattle.frame.specs.Message.{Message, bit, maskOf}
 use Rattle.frame.specs.Frame.{Width, frame}
 use Rattle.frame.specs.Reading.{maskIn, countIn, entriesIn, message, messageIn, reading}
 use Rattle.frame.specs.Readable.{readable}
-use Rattle.frame.specs.Written.{canWrite, written, writtenLength}
-use Rattle.frame.proofs.Conjunction.{and-both}
 use Rattle.frame.proofs.Entries.{present-le}
 use Rattle.frame.proofs.Panels.{bit-maskOf, getD-byPanel, onesIn-lt}
 use Rattle.frame.proofs.Readable.{readable-true, true-readable}
 use Rattle.frame.proofs.Passed.{passed-zero, reading-zero, reading-message, passed-readable, passed-frame}
-use Rattle.frame.proofs.Written.{written-frame}
 use Rattle.frame.proofs.Places.{length-frame, Bytes-frame, frame-passed, frame-message}
 
 -- ---- there and back
@@ -37,17 +31,6 @@ reading-frame width m w e =
 -- Bytes that read as a message are the very bytes written for it.
 pub frame-reading : (width : ℕ) (bs : List ℕ) (m : Message) → Bytes bs → reading width bs ≡ message m → frame width m ≡ bs
 frame-reading width bs m b e = let r = reading-message width bs m e in rw (← r .1) (passed-frame width bs b (r .0))
-
--- The bytes of the buffer that a write answers for read back as the message.
-pub reading-written : (width : ℕ) (m : Message) (buffer : List ℕ) → Width width → canWrite width m buffer ≡ true
-    → reading width (take (writtenLength width m buffer) (written width m buffer)) ≡ message m
-unfolding canWrite
-reading-written width m buffer w e =
-    let t = and-both (readable width m) (leb (length (frame width m)) (length buffer)) e in
-    let f = written-frame width m buffer (t .0) (leb-true (length (frame width m)) (length buffer) (t .1)) in
-    ap₂ (λ (n : ℕ) (bs : List ℕ). reading width (take n bs)) (sym (f .0)) (sym (f .1))
-    ∙ ap (reading width) (take-over buffer (frame width m))
-    ∙ reading-frame width m w (t .0)
 
 -- ---- which messages have a frame
 

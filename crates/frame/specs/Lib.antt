@@ -5,4 +5,3 @@ pub mod Refusal
 pub mod Reading
 pub mod Readable
 pub mod Answer
-pub mod Written

@@ -1,10 +1,7 @@
-// Frames of version 1: reading, checking and writing them. What is promised stands in specs/, in
-// document 01's order. No public function asks anything of its caller.
-mod writing;
-
+// Frames of version 1: checking and reading them. What is promised stands in specs/, in document
+// 01's order. No public function asks anything of its caller.
 use numbers::number_at;
 use std::num::wrapping_sub_u64;
-pub use writing::write;
 ghost use mathlib.Core.Path.{_≡_};
 ghost use Prim.Native.Nat.{_+_, _*_, _≤_, _<_};
 ghost use lib.Count.{onesIn};

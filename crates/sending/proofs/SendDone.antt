@@ -10,12 +10,12 @@ use Rattle.frame.specs.Message.{Message}
 use Rattle.frame.specs.Frame.{frame}
 use Rattle.frame.specs.Refusal.{firstOf}
 use Rattle.frame.specs.Reading.{messageIn}
-use Rattle.frame.specs.Written.{written, writtenLength}
 use Rattle.frame.proofs.Readable.{Readable, readable-true}
 use Rattle.frame.proofs.Passed.{passed-zero}
 use Rattle.frame.proofs.Places.{frame-passed, frame-message}
-use Rattle.frame.proofs.Written.{written-frame}
 use Rattle.frame.proofs.Theorems.{frame-size}
+use Rattle.writing.specs.Written.{written, writtenLength}
+use Rattle.writing.proofs.Written.{written-frame}
 use Rattle.rules.specs.Sizes.{width}
 use Rattle.rules.specs.Panel.{Panel as Record, none64}
 use Rattle.rules.specs.Handing.{raise, hand, logRecord, logRecords}

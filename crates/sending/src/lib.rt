@@ -1,12 +1,12 @@
 // Send, in place on a lent record. Of the record it may touch high, count, marks, barrier and slots,
 // and beside it the output and the frame buffer; own number and time it only reads. `send_in_place`
 // asks nothing of its caller; what it promises is document 01's send, for every argument.
-use frame::write;
 use handing::hand;
 use parts::Answer;
 use parts::broken;
 use parts::settle_slots;
 use slots::in_order;
+use writing::write;
 ghost use mathlib.Core.Path.{_≡_};
 ghost use mathlib.Core.List.{[]};
 ghost use Rattle.frame.specs.Refusal.{firstOf};

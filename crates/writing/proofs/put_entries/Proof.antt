@@ -1,4 +1,4 @@
--- `frame::writing::put_entries` meets its contract. Its loop's invariant is `Put`: the entries of the panels so far are in the buffer.
+-- `writing::put_entries` meets its contract. Its loop's invariant is `Put`: the entries of the panels so far are in the buffer.
 -- Assumes nothing.
 mod Putting
 use mathlib.Core.Path.{_≡_, _∙_}
@@ -10,10 +10,10 @@ use denote.Ref.{now}
 use lib.ListN.{length, getD}
 use Rattle.numbers.specs.Numbers.{bigEndian}
 use Rattle.numbers.specs.Buffer.{over}
 use Rattle.frame.specs.Message.{present}
-use Rattle.frame.proofs.writing.put_entries.Proof.Putting.{Put, put-none, put-all, put-more, put-without, put-room, put-entry}
-use Rattle.frame.proofs.writing.put_entries.Statement.{statement}
-use Rattle.frame.proofs.writing.put_entries.Tie as tie
+use Rattle.writing.proofs.put_entries.Proof.Putting.{Put, put-none, put-all, put-more, put-without, put-room, put-entry}
+use Rattle.writing.proofs.put_entries.Statement.{statement}
+use Rattle.writing.proofs.put_entries.Tie as tie
 
 abbrev Inv-loop : tie.InvT-loop
 Inv-loop buffer₀ entries end at₀ panel₀ buffer at panel = Put 4 buffer₀ 18 entries buffer at panel

@@ -11,8 +11,8 @@ use Rattle.numbers.specs.Numbers.{bigEndian, bigEndians}
 use Rattle.numbers.specs.Buffer.{over}
 use Rattle.numbers.proofs.BigEndian.{length-bigEndian, length-bigEndians, bigEndians-snoc}
 use Rattle.numbers.proofs.Over.{over-nil, over-over, length-over}
 use Rattle.frame.specs.Message.{present}
-use Rattle.frame.proofs.Entries.{present-take-none, present-take-entry, present-take-le, present-take-all}
+use Rattle.writing.proofs.Entries.{present-take-none, present-take-entry, present-take-le, present-take-all}
 
 -- the entries of the panels below s are in buffer, which was buffer₀, from place start on, and at is the place behind them
 pub record Put (width : ℕ) (buffer₀ : List ℕ) (start : ℕ) (es buffer : List ℕ) (at s : ℕ) : Type 0 where

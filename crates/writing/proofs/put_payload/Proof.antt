@@ -1,4 +1,4 @@
--- `frame::writing::put_payload` meets its contract: the payload goes behind its length. Assumes nothing.
+-- `writing::put_payload` meets its contract: the payload goes behind its length. Assumes nothing.
 use mathlib.Core.Path.{ap, _∙_}
 use mathlib.Core.List.{List}
 use Prim.Native.Nat.{ℕ, _+_}
@@ -10,8 +10,8 @@ use Rattle.numbers.specs.Numbers.{bigEndian}
 use Rattle.numbers.specs.Buffer.{over}
 use Rattle.numbers.proofs.BigEndian.{length-bigEndian}
 use Rattle.numbers.proofs.Over.{over-over}
-use Rattle.frame.proofs.writing.put_payload.Statement.{statement}
-use Rattle.frame.proofs.writing.put_payload.Tie as tie
+use Rattle.writing.proofs.put_payload.Statement.{statement}
+use Rattle.writing.proofs.put_payload.Tie as tie
 
 put-number-requires : tie.Need-put-number-requires
 put-number-requires c κs = search needs

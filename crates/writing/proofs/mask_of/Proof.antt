@@ -1,14 +1,14 @@
--- `frame::writing::mask_of` meets its contract: the mask is that of the panels so far, from the highest down. Assumes nothing.
+-- `writing::mask_of` meets its contract: the mask is that of the panels so far, from the highest down. Assumes nothing.
 use mathlib.Core.Path.{_≡_, sym, ap, _∙_}
 use Prim.Native.Nat.{ℕ, _≤_}
 use borrow.Author.Needs.{needs}
 use native.Mathlib.Omega.{arith}
 use denote.Ref.{now}
 use lib.ListN.{length, drop}
 use Rattle.frame.specs.Message.{maskOf}
-use Rattle.frame.proofs.Entries.{maskOf-none, maskOf-drop-none, maskOf-drop-entry, maskOf-drop-lt}
-use Rattle.frame.proofs.writing.mask_of.Statement.{statement}
-use Rattle.frame.proofs.writing.mask_of.Tie as tie
+use Rattle.writing.proofs.Entries.{maskOf-none, maskOf-drop-none, maskOf-drop-entry, maskOf-drop-lt}
+use Rattle.writing.proofs.mask_of.Statement.{statement}
+use Rattle.writing.proofs.mask_of.Tie as tie
 
 abbrev Inv-loop : tie.InvT-loop
 Inv-loop entries mask₀ panel₀ mask panel = (panel ≤ length entries) × (mask ≡ maskOf (drop panel entries))

@@ -1,4 +1,4 @@
--- `frame::writing::put_head` meets its contract: each field goes behind those before it. Assumes nothing.
+-- `writing::put_head` meets its contract: each field goes behind those before it. Assumes nothing.
 use mathlib.Core.Path.{_≡_, ap, _∙_}
 use mathlib.Core.List.{List, _++_}
 use Prim.Native.Nat.{ℕ, _+_, _≤_}
@@ -10,9 +10,9 @@ use Rattle.numbers.specs.Numbers.{bigEndian}
 use Rattle.numbers.specs.Buffer.{over}
 use Rattle.numbers.proofs.BigEndian.{length-bigEndian}
 use Rattle.numbers.proofs.Over.{over-over}
 use Rattle.frame.specs.Frame.{mark}
-use Rattle.frame.proofs.writing.put_head.Statement.{statement}
-use Rattle.frame.proofs.writing.put_head.Tie as tie
+use Rattle.writing.proofs.put_head.Statement.{statement}
+use Rattle.writing.proofs.put_head.Tie as tie
 
 -- what stands in the buffer once one field, two, .. and five have been put
 abbrev head1 : List ℕ

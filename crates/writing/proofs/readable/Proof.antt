@@ -1,13 +1,14 @@
--- `frame::writing::readable` meets its contract: at each `return` the tests so far say whether the message has a frame. Assumes nothing.
+-- `writing::readable` meets its contract: at each `return` the tests so far say whether the message has a frame. Assumes nothing.
 use mathlib.Core.Path.{sym, _∙_}
 use borrow.Author.Needs.{needs}
 use borrow.Author.Tests.{not-true, not-false}
 use native.Mathlib.Omega.{arith}
 use denote.Ref.{now}
 use Rattle.frame.specs.Message.{Message, messageOf}
-use Rattle.frame.proofs.Readable.{readable-source, readable-deadline, readable-entries, readable-payload}
-use Rattle.frame.proofs.writing.readable.Statement.{statement}
-use Rattle.frame.proofs.writing.readable.Tie as tie
+use Rattle.frame.proofs.Readable.{readable-deadline}
+use Rattle.writing.proofs.Tests.{readable-source, readable-entries, readable-payload}
+use Rattle.writing.proofs.readable.Statement.{statement}
+use Rattle.writing.proofs.readable.Tie as tie
 
 abbrev message : tie.Start → Message
 message c = messageOf (c .args .source) (c .args .deadline) (now (c .args .entries)) (now (c .args .payload))

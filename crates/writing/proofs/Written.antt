@@ -10,11 +10,11 @@ use Rattle.numbers.specs.Numbers.{bigEndian, bigEndians}
 use Rattle.numbers.specs.Buffer.{over}
 use Rattle.numbers.proofs.BigEndian.{length-bigEndian, length-bigEndians}
 use Rattle.numbers.proofs.Over.{over-over}
 use Rattle.frame.specs.Message.{Message, maskOf, present}
 use Rattle.frame.specs.Frame.{fields, frame}
 use Rattle.frame.specs.Readable.{readable}
-use Rattle.frame.specs.Written.{headOf, canWrite, written, writtenLength}
 use Rattle.frame.proofs.Places.{length-frame}
+use Rattle.writing.specs.Written.{headOf, canWrite, written, writtenLength}
 
 module _ (width : ℕ) (m : Message) (buffer : List ℕ) where
   not-written : canWrite width m buffer ≡ false → (0 ≡ writtenLength width m buffer) × (buffer ≡ written width m buffer)

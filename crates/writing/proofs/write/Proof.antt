@@ -1,4 +1,4 @@
--- `frame::writing::write` meets its contract: the frame is written where the message has one and the buffer room for it. Assumes nothing.
+-- `writing::write` meets its contract: the frame is written where the message has one and the buffer room for it. Assumes nothing.
 use mathlib.Core.Path.{_≡_, sym, ap, _∙_}
 use mathlib.Core.Bool.{true}
 use mathlib.Core.List.{List}
@@ -10,16 +10,17 @@ use denote.Ref.{now}
 use lib.Count.{ones, ones-le}
 use lib.ListN.{length}
 use Rattle.numbers.specs.Buffer.{over}
 use Rattle.frame.specs.Message.{Message, messageOf, present}
 use Rattle.frame.specs.Frame.{frame}
 use Rattle.frame.specs.Readable.{readable}
-use Rattle.frame.specs.Written.{headOf}
-use Rattle.frame.proofs.Entries.{maskOf-fits, ones-maskOf}
+use Rattle.frame.proofs.Entries.{maskOf-fits}
 use Rattle.frame.proofs.Readable.{true-readable}
 use Rattle.frame.proofs.Places.{length-frame}
-use Rattle.frame.proofs.Written.{head, body, tail, written-unreadable, written-short, written-frame, over-frame}
-use Rattle.frame.proofs.writing.write.Statement.{statement}
-use Rattle.frame.proofs.writing.write.Tie as tie
+use Rattle.writing.specs.Written.{headOf}
+use Rattle.writing.proofs.Entries.{ones-maskOf}
+use Rattle.writing.proofs.Written.{head, body, tail, written-unreadable, written-short, written-frame, over-frame}
+use Rattle.writing.proofs.write.Statement.{statement}
+use Rattle.writing.proofs.write.Tie as tie
 
 abbrev message : tie.Start → Message
 message c = messageOf (c .args .source) (c .args .deadline) (now (c .args .entries)) (now (c .args .payload))

@@ -1,4 +1,4 @@
-// Writing a frame into a lent buffer.
+// Writing a frame of version 1 into a lent buffer. `write` asks nothing of its caller.
 use numbers::put_bytes;
 use numbers::put_number;
 ghost use mathlib.Core.Path.{_≡_};
@@ -7,10 +7,10 @@ ghost use Prim.Native.Nat.{_+_, _*_, _≤_, _<_};
 ghost use lib.ListN.{length};
 ghost use Rattle.numbers.specs.Numbers.{bigEndian, bigEndians};
 ghost use Rattle.numbers.specs.Buffer.{over};
 ghost use Rattle.frame.specs.Message.{messageOf, maskOf, present};
 ghost use Rattle.frame.specs.Readable.{eachBelow};
 ghost use Rattle.frame.specs.Readable.{readable as isReadable};
-ghost use Rattle.frame.specs.Written.{headOf, written, writtenLength};
+ghost use Rattle.writing.specs.Written.{headOf, written, writtenLength};
 
 // Whether each number is below the limit.
 fn each_below(numbers: &[u32], limit: u32) -> bool

@@ -1,4 +1,4 @@
--- `frame::writing::each_below` meets its contract: the numbers from i on are below the limit. Assumes nothing.
+-- `writing::each_below` meets its contract: the numbers from i on are below the limit. Assumes nothing.
 use mathlib.Core.Path.{_≡_, sym, ap, _∙_}
 use mathlib.Core.Bool.{true}
 use Prim.Native.Nat.{ℕ, _-_, _≤_}
@@ -6,10 +6,10 @@ use borrow.Author.Needs.{needs}
 use native.Mathlib.Omega.{arith}
 use denote.Ref.{now}
 use lib.ListN.{length, drop}
 use Rattle.frame.specs.Readable.{eachBelow}
-use Rattle.frame.proofs.EachNumber.{eachBelow-none, eachBelow-next, eachBelow-not}
-use Rattle.frame.proofs.writing.each_below.Statement.{statement}
-use Rattle.frame.proofs.writing.each_below.Tie as tie
+use Rattle.writing.proofs.Tests.{eachBelow-none, eachBelow-next, eachBelow-not}
+use Rattle.writing.proofs.each_below.Statement.{statement}
+use Rattle.writing.proofs.each_below.Tie as tie
 
 abbrev Inv-loop : tie.InvT-loop
 Inv-loop numbers limit i₀ i = (i ≤ length numbers) × (eachBelow limit (drop i numbers) ≡ true)

@@ -1,0 +1,2 @@
+-- The definitions that the promises of writing cite.
+pub mod Written

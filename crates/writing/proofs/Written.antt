@@ -1,10 +1,13 @@
 -- Laws of writing a frame into a buffer: when it can be written, and that its parts, put one behind the other, are the frame. Assumes nothing.
-use mathlib.Core.Path.{_≡_, refl}
+use mathlib.Core.Path.{_≡_, refl, sym, _∙_}
 use mathlib.Core.Bool.{true, false, and-false}
 use mathlib.Core.List.{List, _++_, flatten, append-assoc, append-nil}
-use Prim.Native.Nat.{ℕ, _+_, _*_, _≤_, _<_}
+use Prim.Native.Nat.{ℕ, suc, _+_, _*_, _≤_, _<_}
+use native.Mathlib.Nat.{div-one}
+use native.Mathlib.Numerals.{add-one}
 use native.Mathlib.Omega.{arith}
-use lib.ListN.{length, length-append}
+use lib.ListN.{length, set, take, drop, length-append}
+use lib.Seq.{set-split, append-snoc}
 use borrow.Author.Tests.{le-leb, lt-leb}
 use Rattle.numbers.specs.Numbers.{bigEndian, bigEndians}
 use Rattle.numbers.specs.Buffer.{over}
@@ -32,6 +35,11 @@ module _ (width : ℕ) (m : Message) (buffer : List ℕ) where
       → (length (frame width m) ≡ writtenLength width m buffer) × (over buffer 0 (frame width m) ≡ written width m buffer)
   unfolding canWrite
   written-frame e h = simp (e, le-leb (length (frame width m)) (length buffer) h) (refl, refl)
+
+-- a byte that is stored is a number of one byte
+pub over-byte : (buffer : List ℕ) (at n : ℕ) → at < length buffer → set buffer at n ≡ over buffer at (bigEndian 1 n)
+unfolding over bigEndian
+over-byte buffer at n h = set-split buffer at n h ∙ sym (rw (div-one, add-one) (append-snoc (take at buffer) n (drop (suc at) buffer)))
 
 -- a frame in three parts: the fields up to the mask, the entries, and the payload behind its length
 abbrev pub head : ℕ → Message → List ℕ

@@ -65,9 +65,8 @@ fn put_head(buffer: &mut [u8], source: u8, deadline: u32, mask: u64)
     requires { ⌜ 18 ≤ length (now buffer) ⌝ }
     ensures { λ _. ⌜ now (buffer .exit) ≡ over (now (buffer .entry)) 0 (headOf 4 source deadline mask) ⌝ }
 {
-    put_number(buffer, 0, 3, 0x445259);
-    put_number(buffer, 3, 2, 1);
-    put_number(buffer, 5, 1, source as u64);
+    put_number(buffer, 0, 5, 0x4452590001); // mark and version
+    buffer[5] = source;
     put_number(buffer, 6, 4, deadline as u64);
     put_number(buffer, 10, 8, mask);
 }
@@ -96,7 +95,7 @@ fn put_payload(buffer: &mut [u8], at: usize, payload: &[u8])
     ensures { λ _. ⌜ now (buffer .exit) ≡ over (now (buffer .entry)) at
         (bigEndian 1 (length (now (payload .entry))) ++ now (payload .entry)) ⌝ }
 {
-    put_number(buffer, at, 1, payload.len() as u64);
+    buffer[at] = payload.len() as u8;
     put_bytes(buffer, at + 1, payload);
 }
 
@@ -113,6 +112,7 @@ pub fn write(
     ensures { λ r. ⌜ (r ≡ writtenLength 4 (messageOf source deadline (now (entries .entry)) (now (payload .entry))) (now (buffer .entry)))
         × (now (buffer .exit) ≡ written 4 (messageOf source deadline (now (entries .entry)) (now (payload .entry))) (now (buffer .entry))) ⌝ }
 {
+    let entries: &[u32] = entries;
     if !readable(source, deadline, entries, payload) {
         return 0;
     }

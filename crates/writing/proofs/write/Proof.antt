@@ -25,13 +25,21 @@ use Rattle.writing.proofs.write.Tie as tie
 abbrev message : tie.Start → Message
 message c = messageOf (c .args .source) (c .args .deadline) (now (c .args .entries)) (now (c .args .payload))
 
--- ---- the message has a frame
+-- ---- whether the message has a frame
+
+abbrev start0 : tie.After-readable → tie.Start
+start0 c = c .before .before .before .before
+
+answered : (c : tie.After-readable) → c .readable .result ≡ readable 4 (message (start0 c))
+answered c = c .readable .ensures
+
+-- ---- it has one
 
 abbrev start : tie.After-mask-of → tie.Start
-start c = c .before .before .before .before .before .before .before
+start c = start0 (c .before .before)
 
 has-frame : (c : tie.After-mask-of) → readable 4 (message (start c)) ≡ true
-has-frame c = let past = c .before .before in sym (past .before .readable .ensures) ∙ not-false _ (past .if1 .left)
+has-frame c = let past = c .before in sym (answered (past .before)) ∙ not-false _ (past .if1 .left)
 
 panels : (c : tie.After-mask-of) → length (now (start c .args .entries)) ≡ 64
 panels c = search needs
@@ -50,8 +58,8 @@ readable-requires c κs = search needs
 
 returns : tie.Need-returns
 returns c =
-    let s = c .before .before .before .before .before in
-    written-unreadable 4 (message s) (now (s .args .buffer)) (sym (c .before .readable .ensures) ∙ not-true _ (c .if1 .taken))
+    let s = start0 (c .before) in
+    written-unreadable 4 (message s) (now (s .args .buffer)) (sym (answered (c .before)) ∙ not-true _ (c .if1 .taken))
 
 mask-of-requires : tie.Need-mask-of-requires
 mask-of-requires c κs = search needs
@@ -97,11 +105,11 @@ fits2 c = c .before .before .before .before
 
 put-entries-requires : tie.Need-put-entries-requires
 put-entries-requires c κs =
-    let past = fits2 (c .before .before) in
+    let past = fits2 (c .before) in
     (omega (arith, counted (past .before)), omega (arith, room past, sized (past .before)))
 
 abbrev fits3 : tie.After-slice-known3 → tie.Else2
-fits3 c = fits2 (c .before .before .before .before .before)
+fits3 c = fits2 (c .before .before .before .before)
 
 put-payload-requires : tie.Need-put-payload-requires
 put-payload-requires c κs =
@@ -110,13 +118,13 @@ put-payload-requires c κs =
     (true-readable 4 m (has-frame (past .before)) .payload, omega (arith, room past, sized (past .before)))
 
 same-length : tie.Need-same-length
-same-length c = search needs
+same-length c = omega arith
 
 returns-3 : tie.Need-returns-3
 returns-3 c =
     let put3 = c .before .before in
     let put2 = put3 .before .before .before .before in
-    let put1 = put2 .before .before .before .before .before in
+    let put1 = put2 .before .before .before .before in
     let past = put1 .before .before in
     let s = start (past .before) in
     let m = message s in

@@ -114,7 +114,7 @@ def read_repository():
         if program:
             first = runs.setdefault(program, crate)
             first.runs += 1
-            first.name, first.sizes = f"{first.runs} further runs of {program}", dict.fromkeys(first.sizes, 0)
+            first.name, first.sizes = f"{first.runs} further run{'s' * (first.runs > 1)} of {program}", dict.fromkeys(first.sizes, 0)
         if not program or runs[program] is crate:
             boxes.append(crate)
     return boxes

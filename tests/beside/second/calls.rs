@@ -1,0 +1,242 @@
+//! Send, receive and clock: the source's codes 5, 9 and 11, with document 01's refusals in front.
+
+use super::delivery::raise;
+use super::faults::{planted, Fault};
+use super::log::Log;
+use super::{accepted, first, refused, Answer, Message, Panel, FRAME, OUTPUT, PAYLOAD, WAITING};
+
+/// Whether an output is too short.
+fn short(output: &[u8]) -> bool {
+    output.len() < OUTPUT - usize::from(planted(Fault::OutputOneByteShortTaken))
+}
+
+impl Panel {
+    /// Sends a payload.
+    pub fn send(
+        &mut self,
+        payload: &[u8],
+        lifetime: u16,
+        output: &mut [u8],
+        frame: &mut [u8],
+    ) -> Answer {
+        let deadline = self.next_deadline(lifetime);
+        let last = match (
+            planted(Fault::LastDeadlineRefused),
+            planted(Fault::DeadlinePastLastSent),
+        ) {
+            (true, _) => u64::from(u32::MAX) - 1,
+            (_, true) => u64::from(u32::MAX) + 1,
+            _ => u64::from(u32::MAX),
+        };
+        let longest = PAYLOAD + usize::from(planted(Fault::PayloadThirtyThreeSent));
+        let least_frame = FRAME - usize::from(planted(Fault::FrameBufferOneByteShortTaken));
+        let number = first([
+            (26, self.broken()),
+            (10, short(output) || frame.len() < least_frame),
+            (9, payload.len() > longest),
+            (24, deadline > last),
+        ]);
+        match number {
+            Some(number) => refused(number),
+            None => self.accept(|panel| panel.broadcast(payload, deadline as u32, output, frame)),
+        }
+    }
+
+    /// Receives a frame.
+    pub fn receive(&mut self, frame: &[u8], output: &mut [u8]) -> Answer {
+        let reading = Message::read(frame);
+        let turned_down = reading.as_ref().err().copied().unwrap_or(0);
+        let mut checks = [
+            (26, self.broken()),
+            (10, short(output)),
+            (turned_down, reading.is_err()),
+        ];
+        if planted(Fault::FrameBeforeShortOutput) {
+            checks.swap(1, 2);
+        }
+        let message = match (first(checks), reading) {
+            (Some(number), _) | (None, Err(number)) => return refused(number),
+            (None, Ok(message)) => message,
+        };
+        let ready = self.predecessors_left(&message).is_empty();
+        match self.refusal(&message, ready) {
+            Some(number) => {
+                if planted(Fault::RefusedLapsedRaisesMark) && number == 21 {
+                    raise(&mut self.delivered, message.source, message.deadline);
+                }
+                refused(number)
+            }
+            None => self.accept(|panel| panel.take(message, ready, output)),
+        }
+    }
+
+    /// Sets the time.
+    pub fn clock(&mut self, reading: u32, output: &mut [u8]) -> Answer {
+        let back = match planted(Fault::SameReadingRefused) {
+            true => reading <= self.time,
+            false => reading < self.time,
+        };
+        match first([(26, self.broken()), (10, short(output)), (25, back)]) {
+            Some(number) => refused(number),
+            None => self.accept(|panel| panel.set_time(reading, output)),
+        }
+    }
+
+    /// Changes the record by a call that is not refused.
+    fn accept(&mut self, call: impl FnOnce(&mut Panel) -> Answer) -> Answer {
+        match planted(Fault::RecordAsItCame) {
+            true => call(&mut self.clone()),
+            false => call(self),
+        }
+    }
+
+    /// The deadline of a message sent now.
+    fn next_deadline(&self, lifetime: u16) -> u64 {
+        let lifetime = match lifetime {
+            0 if !planted(Fault::LifetimeZeroMeansZero) => 1200,
+            _ => u64::from(lifetime),
+        };
+        let by_clock = match planted(Fault::DeadlineWraps) {
+            true => u64::from(self.time.wrapping_add(lifetime as u32)),
+            false => u64::from(self.time) + lifetime,
+        };
+        if planted(Fault::DeadlineByTheClockAlone) {
+            return by_clock;
+        }
+        let above = u64::from(!planted(Fault::DeadlineNotAboveHigh));
+        by_clock.max(u64::from(self.high) + above)
+    }
+
+    /// The message sent now: its predecessors are the barrier as it is.
+    fn next_message(&mut self, deadline: u32, payload: &[u8]) -> Message {
+        if planted(Fault::BarrierEmptiedBeforeFrame) {
+            self.barrier.clear();
+        }
+        let mut predecessors = self.barrier.clone();
+        if planted(Fault::LapsedEntriesStripped) {
+            predecessors.retain(|_, entry| *entry >= self.time);
+        }
+        if planted(Fault::OwnMessageInItsBarrier) {
+            predecessors.insert(self.own, deadline);
+        }
+        if planted(Fault::OwnEntryLeftOut) {
+            predecessors.remove(&self.own);
+        }
+        Message {
+            source: self.own,
+            deadline,
+            predecessors,
+            payload: payload.to_vec(),
+        }
+    }
+
+    /// Codes 2 and 9: writes the frame, empties the barrier, hands the own message and settles.
+    fn broadcast(
+        &mut self,
+        payload: &[u8],
+        deadline: u32,
+        output: &mut [u8],
+        frame: &mut [u8],
+    ) -> Answer {
+        let message = self.next_message(deadline, payload);
+        let bytes = message.frame();
+        if planted(Fault::FrameBufferCleared) {
+            frame.fill(0);
+        }
+        let written = bytes.len().min(frame.len());
+        frame[..written].copy_from_slice(&bytes[..written]);
+        if !planted(Fault::BarrierNotEmptied) {
+            self.barrier.clear();
+        }
+        let mut log = Log::new(output);
+        if planted(Fault::OwnMessageLast) {
+            self.check_pending_messages(&mut log);
+        }
+        self.perform_delivery(&message, &mut log);
+        if !planted(Fault::SendDoesNotSettle) {
+            self.check_pending_messages(&mut log);
+        }
+        accepted(log.count(), bytes.len())
+    }
+
+    /// Codes 5 and 11: a message that is ready is handed, and any other waits. Then the panel
+    /// settles.
+    fn take(&mut self, message: Message, ready: bool, output: &mut [u8]) -> Answer {
+        let mut log = Log::new(output);
+        if planted(Fault::SettledBeforeHanding) {
+            self.check_pending_messages(&mut log);
+        }
+        let ready = ready && !planted(Fault::EveryMessageHeldBack);
+        match ready || planted(Fault::HandedOnArrival) {
+            true => self.perform_delivery(&message, &mut log),
+            false => self.wait(message),
+        }
+        self.check_pending_messages(&mut log);
+        accepted(log.count(), 0)
+    }
+
+    /// Why a readable message is turned down because of the state.
+    fn refusal(&self, message: &Message, ready: bool) -> Option<u8> {
+        let lapsed = match planted(Fault::LapsedAtEqualTime) {
+            true => message.deadline <= self.time,
+            false => message.deadline < self.time,
+        };
+        let mark = self.delivered.get(&message.source).copied().unwrap_or(0);
+        let logged = match planted(Fault::LoggedCopyTaken) {
+            true => message.deadline < mark,
+            false => message.deadline <= mark,
+        };
+        let waiting = self.pending.iter().any(|pending| {
+            pending.message.source == message.source && pending.message.deadline == message.deadline
+        });
+        let waiting = waiting && !planted(Fault::WaitingCopyTaken);
+        let full = self.pending.len() + self.lost_places >= WAITING
+            || planted(Fault::FullWithPlacesFree)
+            || planted(Fault::FullWithThirtyOne) && self.pending.len() + 1 == WAITING;
+        first([
+            (
+                20,
+                message.source == self.own && !planted(Fault::OwnSourceTaken),
+            ),
+            (21, lapsed),
+            (22, logged || waiting),
+            (23, full && (!ready || planted(Fault::FullBeforeReady))),
+        ])
+    }
+
+    /// Sets the time, drops the lapsed waiting messages and settles.
+    fn set_time(&mut self, reading: u32, output: &mut [u8]) -> Answer {
+        self.time = reading;
+        let mut log = Log::new(output);
+        if planted(Fault::DroppedAfterSettling) {
+            self.forget_expired_messages();
+            self.check_pending_messages(&mut log);
+        }
+        self.drop_lapsed(&mut log);
+        self.forget_expired_messages();
+        if !planted(Fault::ClockDoesNotSettle) {
+            self.check_pending_messages(&mut log);
+        }
+        accepted(log.count(), 0)
+    }
+
+    /// The source's discard notice: lapsed waiting messages are dropped and never handed.
+    fn drop_lapsed(&mut self, log: &mut Log) {
+        let now = self.time;
+        let lapsed = |message: &Message| match planted(Fault::DroppedAtEqualTime) {
+            true => message.deadline <= now,
+            false => message.deadline < now,
+        };
+        if planted(Fault::LapsedNotDropped) {
+            return;
+        }
+        if planted(Fault::DroppedIsHanded) {
+            for pending in self.pending.clone() {
+                if lapsed(&pending.message) {
+                    self.perform_delivery(&pending.message, log);
+                }
+            }
+        }
+        self.pending.retain(|pending| !lapsed(&pending.message));
+    }
+}

@@ -1,0 +1,160 @@
+//! Handing and settling: the source's codes 3, 4, 6, 7, 10, 12 and 13.
+
+use super::faults::{planted, Fault};
+use super::log::Log;
+use super::panel::Pending;
+use super::{Barrier, Message, Panel};
+use std::cmp::Reverse;
+
+/// The larger of the entry of a panel and this one becomes the entry.
+pub fn raise(entries: &mut Barrier, panel: u8, entry: u32) {
+    let raised = entries
+        .get(&panel)
+        .map_or(entry, |present| entry.max(*present));
+    entries.insert(panel, raised);
+}
+
+/// Code 10: predecessors whose deadline is over are struck off.
+fn expunge_expired_predecessors(left: &mut Barrier, now: u32) {
+    match planted(Fault::EntryMetAtEqualTime) {
+        true => left.retain(|_, entry| *entry > now),
+        false => left.retain(|_, entry| *entry >= now),
+    }
+}
+
+/// Code 6: predecessors that were delivered are struck off.
+fn expunge_delivered_predecessors(left: &mut Barrier, delivered: &Barrier) {
+    let met = |panel: &u8, entry: u32| {
+        delivered
+            .get(panel)
+            .is_some_and(|mark| match planted(Fault::EntryMetByEqualMarkOnly) {
+                true => *mark == entry,
+                false => *mark >= entry,
+            })
+    };
+    left.retain(|panel, entry| !met(panel, *entry));
+}
+
+impl Panel {
+    /// What is left of a message's predecessors (codes 5 and 11). It is ready if none is.
+    pub fn predecessors_left(&self, message: &Message) -> Barrier {
+        let mut left = message.predecessors.clone();
+        if !planted(Fault::LapsedEntryWaitedFor) {
+            expunge_expired_predecessors(&mut left, self.time);
+        }
+        expunge_delivered_predecessors(&mut left, &self.delivered);
+        left
+    }
+
+    /// Code 3: hands a message.
+    pub fn perform_delivery(&mut self, message: &Message, log: &mut Log) {
+        let (source, deadline) = (message.source, message.deadline);
+        let received = source != self.own;
+        match planted(Fault::MarkOverwritten) {
+            true => _ = self.delivered.insert(source, deadline),
+            false => raise(&mut self.delivered, source, deadline),
+        }
+        match planted(Fault::BarrierOverwritten) {
+            true => _ = self.barrier.insert(source, deadline),
+            false if planted(Fault::BarrierNotRaisedByReceived) && received => {}
+            false if planted(Fault::BarrierNotRaisedByOwn) && !received => {}
+            false => raise(&mut self.barrier, source, deadline),
+        }
+        if !(planted(Fault::HighNotRaisedByReceived) && received) {
+            self.high = self.high.max(deadline);
+        }
+        log.write(message);
+        self.forget_dependency(source, deadline);
+    }
+
+    /// Code 4: no pending message waits any longer for this one, nor for an earlier one of its
+    /// source.
+    fn forget_dependency(&mut self, source: u8, deadline: u32) {
+        for pending in &mut self.pending {
+            if pending
+                .left
+                .get(&source)
+                .is_some_and(|entry| *entry <= deadline)
+            {
+                pending.left.remove(&source);
+            }
+        }
+    }
+
+    /// Code 12, but for the marks: these stay.
+    pub fn forget_expired_messages(&mut self) {
+        let now = self.time;
+        for pending in &mut self.pending {
+            expunge_expired_predecessors(&mut pending.left, now);
+        }
+        if planted(Fault::LapsedMarksForgotten) {
+            self.delivered.retain(|_, mark| *mark >= now);
+        }
+    }
+
+    /// Codes 7 and 13: settles the panel. Document 01 says which of several ready messages goes
+    /// first.
+    pub fn check_pending_messages(&mut self, log: &mut Log) {
+        if planted(Fault::EveryMessageHeldBack) {
+            return;
+        }
+        if planted(Fault::OnePassOverTheList) {
+            return self.pass_once(log);
+        }
+        while let Some(place) = self.next_ready() {
+            let pending = self.leave(place);
+            self.perform_delivery(&pending.message, log);
+        }
+    }
+
+    /// The place of the ready message that goes first: lowest deadline, then lowest source, then
+    /// earliest in the list.
+    fn next_ready(&self) -> Option<usize> {
+        let ready = |place: &usize| self.pending[*place].left.is_empty();
+        let places = (0..self.pending.len()).filter(ready);
+        let known = |place: usize| {
+            let message = &self.pending[place].message;
+            (message.deadline, message.source)
+        };
+        if planted(Fault::HighestSourceFirst) {
+            return places.min_by_key(|place| (known(*place).0, Reverse(known(*place).1)));
+        }
+        if planted(Fault::HighestDeadlineFirst) {
+            return places.min_by_key(|place| (Reverse(known(*place).0), known(*place).1));
+        }
+        if planted(Fault::SourceBeforeDeadline) {
+            return places.min_by_key(|place| (known(*place).1, known(*place).0));
+        }
+        if planted(Fault::LatestInTheListFirst) {
+            return places.min_by_key(|place| (known(*place), Reverse(*place)));
+        }
+        if planted(Fault::EarliestInTheListFirst) {
+            return places.min();
+        }
+        places.min_by_key(|place| (known(*place), *place))
+    }
+
+    /// Takes the message at this place out of the list.
+    fn leave(&mut self, place: usize) -> Pending {
+        if planted(Fault::PlaceNotUsedAgain) {
+            self.lost_places += 1;
+        }
+        match planted(Fault::LastIntoTheFreedPlace) {
+            true => self.pending.swap_remove(place),
+            false => self.pending.remove(place),
+        }
+    }
+
+    /// A planted fault: settling goes over the list once.
+    fn pass_once(&mut self, log: &mut Log) {
+        let mut place = 0;
+        while place < self.pending.len() {
+            if self.pending[place].left.is_empty() {
+                let pending = self.pending.remove(place);
+                self.perform_delivery(&pending.message, log);
+            } else {
+                place += 1;
+            }
+        }
+    }
+}

@@ -1,0 +1,177 @@
+//! Planted faults: plausible mistakes of a reader of document 01, each at one place of the second
+//! implementation. A thread switches one on for itself; without that there is none.
+
+use std::cell::Cell;
+
+/// Declares the faults, each with its words.
+macro_rules! faults {
+    ($($name:ident: $words:literal,)*) => {
+        #[derive(Clone, Copy, Debug, PartialEq, Eq)]
+        pub enum Fault {
+            $($name,)*
+        }
+
+        pub const FAULTS: &[Fault] = &[$(Fault::$name,)*];
+
+        impl Fault {
+            /// What the second implementation does wrong.
+            pub fn words(self) -> &'static str {
+                match self {
+                    $(Fault::$name => $words,)*
+                }
+            }
+        }
+    };
+}
+
+faults! {
+    // Where the earlier modules went astray.
+    OnePassOverTheList: "settling goes over the list once",
+    BarrierEmptiedBeforeFrame: "the barrier is emptied before the frame is written",
+    DroppedAfterSettling: "lapsed messages are dropped after settling",
+    OwnMessageInItsBarrier: "the own new message is put in its own barrier",
+    FullBeforeReady: "23 before looking whether the message is ready",
+    // The sham modules.
+    EveryMessageHeldBack: "every message is held back",
+    HandedOnArrival: "each message is handed on arrival",
+    EveryFrameTurnedDown: "every frame is turned down",
+    FullWithPlacesFree: "23 with places free",
+    OneReadingForAll: "every frame has the same reading",
+    CountOneTooHigh: "the count is another than that of the records",
+    RecordAsItCame: "the record is given back as it came",
+    // Lapsed and ready.
+    LapsedAtEqualTime: "21 for a deadline equal to the time",
+    DroppedAtEqualTime: "a waiting message is dropped at its deadline",
+    LapsedNotDropped: "lapsed waiting messages are not dropped",
+    DroppedIsHanded: "a dropped message is handed",
+    EntryMetAtEqualTime: "an entry equal to the time is met",
+    EntryMetByEqualMarkOnly: "an entry below the mark is not met",
+    LapsedEntryWaitedFor: "an entry lapsed on arrival is waited for until the next clock call",
+    // Settling and the list.
+    HighestSourceFirst: "of equal deadlines the highest source goes first",
+    HighestDeadlineFirst: "the highest deadline goes first",
+    SourceBeforeDeadline: "the lowest source goes first, then the lowest deadline",
+    LatestInTheListFirst: "of equal messages the latest in the list goes first",
+    EarliestInTheListFirst: "the earliest in the list goes first",
+    PlaceNotUsedAgain: "a place freed in the list is not used again",
+    LastIntoTheFreedPlace: "the last of the list moves to the place that is freed",
+    NewestFirstInTheList: "a message goes to the start of the list",
+    StruckEntriesLost: "a waiting message loses the entries that are met",
+    SendDoesNotSettle: "a send does not settle",
+    ClockDoesNotSettle: "a clock call does not settle",
+    SettledBeforeHanding: "the panel settles before the received message is handed",
+    OwnMessageLast: "a send settles before the own message is handed",
+    // Marks, barrier and high.
+    MarkOverwritten: "a mark is overwritten by a lower deadline",
+    BarrierOverwritten: "a barrier entry is overwritten by a lower deadline",
+    BarrierNotRaisedByReceived: "a received message does not enter the barrier",
+    BarrierNotRaisedByOwn: "the own message does not enter the barrier after its frame",
+    BarrierNotEmptied: "a send does not empty the barrier",
+    HighNotRaisedByReceived: "a received message does not raise high",
+    LapsedMarksForgotten: "lapsed marks are forgotten",
+    LapsedEntriesStripped: "lapsed entries are stripped from the barrier before sending",
+    OwnEntryLeftOut: "a frame leaves the entry of its own source out",
+    // Deadlines.
+    DeadlineByTheClockAlone: "the deadline is time + lifetime, whatever high is",
+    DeadlineNotAboveHigh: "the deadline may be equal to high",
+    DeadlineWraps: "time + lifetime is taken in 32 bits",
+    LifetimeZeroMeansZero: "lifetime 0 means 0",
+    LastDeadlineRefused: "24 one early",
+    DeadlinePastLastSent: "24 one late",
+    // The order of the refusals.
+    ShortBeforeBroken: "10 before 26",
+    LongPayloadBeforeShort: "9 before 10",
+    TooHighBeforeLongPayload: "24 before 9",
+    FrameBeforeShortOutput: "1 to 8 before 10",
+    LapsedBeforeOwnSource: "21 before 20",
+    HadBeforeLapsed: "22 before 21",
+    FullBeforeHad: "23 before 22",
+    ClockBackBeforeShort: "25 before 10",
+    // Refusals.
+    SameReadingRefused: "25 for the same clock reading",
+    OwnSourceTaken: "a frame of the own number is taken",
+    WaitingCopyTaken: "a copy of a waiting message is taken",
+    LoggedCopyTaken: "a copy of the last message of a source is taken",
+    FullWithThirtyOne: "23 with 31 waiting",
+    RefusedLapsedRaisesMark: "a message refused as lapsed raises the mark",
+    PayloadThirtyThreeSent: "a payload of 33 is sent",
+    OutputOneByteShortTaken: "an output of 1,253 bytes is taken",
+    FrameBufferOneByteShortTaken: "a frame buffer of 306 bytes is taken",
+    FreshSixtyFourTaken: "a fresh panel 64 is made",
+    FreshRefusalKeepsNumber: "the record that comes with 11 has the number asked for",
+    OwnNumberSixtyFourLetThrough: "26 lets own number 64 through",
+    MarkAboveHighLetThrough: "26 lets a mark above high through",
+    BarrierAboveHighLetThrough: "26 lets a barrier entry above high through",
+    ThirtyThreeLetThrough: "26 lets 33 waiting through",
+    UnreadableLetThrough: "26 lets a waiting message through that no readable frame carries",
+    // Frames.
+    MarkBeforeLength: "the mark is looked at before the length",
+    VersionBeforeMark: "3 before 2",
+    SourceBeforeVersion: "4 before 3",
+    DeadlineBeforeSource: "5 before 4",
+    EntriesShortBeforeDeadline: "too few bytes for the entries before deadline 0",
+    PayloadLengthBeforeEntries: "7 before 6",
+    PayloadShortBeforeLength: "too few bytes for the payload before its length",
+    SourceSixtyFourTaken: "source 64 is taken",
+    DeadlineZeroTaken: "deadline 0 is taken",
+    EntryZeroTaken: "an entry of 0 is taken",
+    EntryEqualToDeadlineTaken: "an entry equal to the deadline is taken",
+    PayloadLengthThirtyThreeTaken: "a payload length of 33 is taken",
+    BytesLeftOverTaken: "bytes left over are taken",
+    MaskFromTheTop: "the bit of highest weight stands for panel 0",
+    EntriesHighestPanelFirst: "entries are read highest panel first",
+    EntriesWrittenHighestPanelFirst: "entries are written highest panel first",
+    LowestByteFirst: "numbers are read lowest byte first",
+    // Outputs and logs.
+    LogZerosMissing: "a log record has no zeros after the payload",
+    OutputCleared: "the output is cleared behind the log records",
+    FrameBufferCleared: "the frame buffer is cleared behind the frame",
+    LogRecordCutOffRead: "a log record is read whose last byte is missing",
+    LogLengthUnchecked: "a log record of payload length 33 is read",
+    // Bundles and list.
+    EndIsBroken: "the end of a bundle is broken",
+    PlacePastTheEndIsEnd: "a place past the end is the end",
+    BrokenMovesThePlace: "broken moves the place to the end",
+    EmptyFrameIsBroken: "a frame of length 0 is broken",
+    ListFeedsPanelOne: "list feeds panel 1",
+    ListCountsFromZero: "list counts frames from 0",
+    ListSaysTaken: "list says taken of a refused frame",
+    ListEndsAtRefusal: "list ends at a refused frame",
+    UpperCaseHexadecimal: "list prints upper-case hexadecimal",
+    EmptyPayloadAsBlank: "list prints nothing for an empty payload",
+    LongOneByteEarly: "list says long of 65,535 bytes",
+}
+
+thread_local! {
+    static PLANTED: Cell<Option<Fault>> = const { Cell::new(None) };
+}
+
+/// Switches this fault on for the thread, and any other off.
+pub fn plant(fault: Option<Fault>) {
+    PLANTED.set(fault);
+}
+
+/// Whether this fault is switched on.
+pub fn planted(fault: Fault) -> bool {
+    PLANTED.get() == Some(fault)
+}
+
+/// The two numbers that a planted fault has exchanged in the order of the checks.
+pub fn exchanged() -> Option<(u8, u8)> {
+    match PLANTED.get()? {
+        Fault::ShortBeforeBroken => Some((26, 10)),
+        Fault::LongPayloadBeforeShort => Some((10, 9)),
+        Fault::TooHighBeforeLongPayload => Some((9, 24)),
+        Fault::LapsedBeforeOwnSource => Some((20, 21)),
+        Fault::HadBeforeLapsed => Some((21, 22)),
+        Fault::FullBeforeHad => Some((22, 23)),
+        Fault::ClockBackBeforeShort => Some((10, 25)),
+        Fault::VersionBeforeMark => Some((2, 3)),
+        Fault::SourceBeforeVersion => Some((3, 4)),
+        Fault::DeadlineBeforeSource => Some((4, 5)),
+        Fault::EntriesShortBeforeDeadline => Some((5, 1)),
+        Fault::PayloadLengthBeforeEntries => Some((6, 7)),
+        Fault::PayloadShortBeforeLength => Some((7, 1)),
+        _ => None,
+    }
+}

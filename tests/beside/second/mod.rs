@@ -1,0 +1,82 @@
+//! A second implementation of the message module, written from document 01 and, for the algorithm,
+//! from codes 1 to 13 of source document 004. It shares nothing with the module. Simple and slow
+//! code is preferred here over clever code.
+
+pub mod bundle;
+mod calls;
+mod delivery;
+pub mod faults;
+mod listing;
+pub mod log;
+mod message;
+mod panel;
+
+pub use listing::listing;
+pub use message::{Barrier, Message};
+pub use panel::{fresh, Panel};
+
+use faults::exchanged;
+use std::fmt;
+
+/// Panels of a farm, numbered from 0.
+pub const PANELS: u8 = 64;
+/// Messages that may wait at a panel.
+pub const WAITING: usize = 32;
+/// Bytes of the longest payload.
+pub const PAYLOAD: usize = 32;
+/// Bytes of a log record.
+pub const LOG_RECORD: usize = 38;
+/// Bytes that an output has at least.
+pub const OUTPUT: usize = 1254;
+/// Bytes that the frame buffer of a send has at least, and those of the longest frame.
+pub const FRAME: usize = 307;
+
+/// What a call answers: 0 or the number of its refusal, how many log records stand in the output,
+/// and how many bytes of a frame in the frame buffer.
+#[derive(Clone, Copy, Debug, PartialEq, Eq)]
+pub struct Answer {
+    pub number: u8,
+    pub count: usize,
+    pub length: usize,
+}
+
+impl fmt::Display for Answer {
+    fn fmt(&self, text: &mut fmt::Formatter) -> fmt::Result {
+        let Answer {
+            number,
+            count,
+            length,
+        } = self;
+        write!(text, "number {number}, count {count}, length {length}")
+    }
+}
+
+/// The answer of a call that is not refused.
+fn accepted(count: usize, length: usize) -> Answer {
+    Answer {
+        number: 0,
+        count,
+        length,
+    }
+}
+
+/// The answer of a refusal: every count and length beside the number is 0.
+fn refused(number: u8) -> Answer {
+    Answer {
+        number,
+        count: 0,
+        length: 0,
+    }
+}
+
+/// The number of the first check that applies. The checks stand in document 01's order.
+fn first<const MANY: usize>(mut checks: [(u8, bool); MANY]) -> Option<u8> {
+    if let Some((earlier, later)) = exchanged() {
+        let place = |wanted| checks.iter().position(|(number, _)| *number == wanted);
+        if let (Some(one), Some(other)) = (place(earlier), place(later)) {
+            checks.swap(one, other);
+        }
+    }
+    let found = checks.iter().find(|(_, applies)| *applies);
+    found.map(|(number, _)| *number)
+}

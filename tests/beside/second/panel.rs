@@ -1,0 +1,153 @@
+//! The record of a panel, in the source's form: the causal barrier and what was delivered are maps,
+//! and a pending message has a barrier of its own, from which predecessors are struck off.
+
+use super::faults::{planted, Fault};
+use super::{Barrier, Message, PANELS, WAITING};
+
+/// A message that waits, and its frame. The source strikes predecessors off as they are met or
+/// expire: `left` are those that are not struck off yet. Document 01 keeps the message as it came.
+#[derive(Clone, Debug)]
+pub struct Pending {
+    pub message: Message,
+    pub left: Barrier,
+    frame: Vec<u8>,
+}
+
+/// A panel record.
+#[derive(Clone, Debug)]
+pub struct Panel {
+    pub own: u8,
+    pub time: u32,
+    pub high: u32,
+    /// The marks; a source without any has no entry.
+    pub delivered: Barrier,
+    pub barrier: Barrier,
+    /// The waiting messages, in the order taken.
+    pub pending: Vec<Pending>,
+    /// How many more than 32 wait, in a broken record.
+    excess: usize,
+    /// How many waiting messages no readable frame carries, in a broken record.
+    unreadable: usize,
+    /// Places of the list that are never used again: none, but for a planted fault.
+    pub lost_places: usize,
+}
+
+/// A fresh panel, and the number that it is answered with.
+pub fn fresh(number: u8) -> (Panel, u8) {
+    let mut panel = Panel {
+        own: number,
+        time: 0,
+        high: 0,
+        delivered: Barrier::new(),
+        barrier: Barrier::new(),
+        pending: Vec::new(),
+        excess: 0,
+        unreadable: 0,
+        lost_places: 0,
+    };
+    let last = PANELS - 1 + u8::from(planted(Fault::FreshSixtyFourTaken));
+    if number <= last {
+        return (panel, 0);
+    }
+    if !planted(Fault::FreshRefusalKeepsNumber) {
+        panel.own = 0;
+    }
+    (panel, 11)
+}
+
+/// The entries of 64 numbers, in which 0 says that a panel has none.
+fn entries(numbers: &[u32; 64]) -> Barrier {
+    let places = (0..PANELS).zip(numbers);
+    places
+        .filter(|(_, entry)| **entry != 0)
+        .map(|(panel, entry)| (panel, *entry))
+        .collect()
+}
+
+/// The 64 numbers of these entries.
+fn numbers(entries: &Barrier) -> [u32; 64] {
+    let mut numbers = [0; 64];
+    for (panel, entry) in entries {
+        numbers[usize::from(*panel) % 64] = *entry;
+    }
+    numbers
+}
+
+impl Panel {
+    /// A record that was kept, whole or broken: its numbers, how many messages it says are waiting,
+    /// and the bytes of the first 32 of them.
+    pub fn kept(
+        (own, time, high): (u8, u32, u32),
+        marks: &[u32; 64],
+        barrier: &[u32; 64],
+        count: usize,
+        frames: &[Vec<u8>],
+    ) -> Panel {
+        let mut panel = fresh(0).0;
+        (panel.own, panel.time, panel.high) = (own, time, high);
+        (panel.delivered, panel.barrier) = (entries(marks), entries(barrier));
+        panel.excess = count.saturating_sub(WAITING);
+        for frame in frames.iter().take(count) {
+            match Message::read(frame) {
+                Ok(message) => panel.wait(message),
+                Err(_) => panel.unreadable += 1,
+            }
+        }
+        panel
+    }
+
+    /// Puts a message to the end of the list.
+    pub fn wait(&mut self, message: Message) {
+        let left = self.predecessors_left(&message);
+        let frame = message.frame();
+        let pending = Pending {
+            message,
+            left,
+            frame,
+        };
+        match planted(Fault::NewestFirstInTheList) {
+            true => self.pending.insert(0, pending),
+            false => self.pending.push(pending),
+        }
+    }
+
+    /// Whether the record is broken, in the words of 26.
+    pub fn broken(&self) -> bool {
+        let last = PANELS - 1 + u8::from(planted(Fault::OwnNumberSixtyFourLetThrough));
+        let above = |entries: &Barrier| entries.values().any(|entry| *entry > self.high);
+        let excess = self
+            .excess
+            .saturating_sub(usize::from(planted(Fault::ThirtyThreeLetThrough)));
+        self.own > last
+            || above(&self.delivered) && !planted(Fault::MarkAboveHighLetThrough)
+            || above(&self.barrier) && !planted(Fault::BarrierAboveHighLetThrough)
+            || excess > 0
+            || self.unreadable > 0 && !planted(Fault::UnreadableLetThrough)
+    }
+
+    /// The 64 marks.
+    pub fn marks(&self) -> [u32; 64] {
+        numbers(&self.delivered)
+    }
+
+    /// The 64 barrier entries.
+    pub fn barrier_entries(&self) -> [u32; 64] {
+        numbers(&self.barrier)
+    }
+
+    /// How many messages are waiting.
+    pub fn count(&self) -> usize {
+        self.pending.len()
+    }
+
+    /// The frame of the waiting message at this place.
+    pub fn waiting(&self, place: usize) -> Vec<u8> {
+        let pending = &self.pending[place];
+        if planted(Fault::StruckEntriesLost) {
+            let mut message = pending.message.clone();
+            message.predecessors = pending.left.clone();
+            return message.frame();
+        }
+        pending.frame.clone()
+    }
+}

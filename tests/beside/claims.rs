@@ -1,0 +1,196 @@
+//! The claims of demand 3, in document 01's words, on a list of calls. All is computed from the
+//! calls, their answers and what they wrote: nothing here looks into a record.
+
+use crate::bits::Bits;
+use crate::calls::Call;
+use crate::second::{Answer, LOG_RECORD};
+use std::collections::HashMap;
+
+/// A message, and all messages before it in cause.
+struct Message {
+    source: u8,
+    deadline: u32,
+    before: Bits,
+}
+
+/// What the words say of one panel. Messages are numbered in the order in which they came up.
+#[derive(Clone, Default)]
+struct At {
+    time: u32,
+    /// The panel's log, and the set of its messages.
+    log: Vec<usize>,
+    logged: Bits,
+    /// The messages of the log and all before them in cause.
+    past: Bits,
+    sent: Bits,
+    taken: Bits,
+}
+
+/// How many messages at panels the claims spoke of, and how many of them wait rightly.
+#[derive(Clone, Copy, Default)]
+pub struct Spoken {
+    pub messages: u64,
+    pub waiting: u64,
+}
+
+pub struct Claims {
+    messages: Vec<Message>,
+    known: HashMap<(u8, u32), usize>,
+    /// The messages of the frames that were sent, by their bytes.
+    frames: HashMap<Vec<u8>, usize>,
+    panels: Vec<At>,
+    /// A frame was taken that nobody had sent: demand 3 says nothing of this list.
+    pub void: bool,
+}
+
+impl Claims {
+    pub fn new(panels: usize) -> Claims {
+        Claims {
+            messages: Vec::new(),
+            known: HashMap::new(),
+            frames: HashMap::new(),
+            panels: vec![At::default(); panels],
+            void: false,
+        }
+    }
+
+    /// The number of the message with this source and deadline.
+    fn message(&mut self, source: u8, deadline: u32) -> usize {
+        let next = self.messages.len();
+        let number = *self.known.entry((source, deadline)).or_insert(next);
+        if number == next {
+            let before = Bits::default();
+            self.messages.push(Message {
+                source,
+                deadline,
+                before,
+            });
+        }
+        number
+    }
+
+    /// Takes a call down that has just been made, with what it wrote.
+    pub fn after(
+        &mut self,
+        panel: usize,
+        call: &Call,
+        answer: Answer,
+        output: &[u8],
+        frame: &[u8],
+    ) {
+        if answer.number != 0 {
+            return;
+        }
+        match call {
+            Call::Send { .. } => self.sent(panel, &frame[..answer.length.min(frame.len())]),
+            Call::Receive { bytes, .. } => match self.frames.get(bytes) {
+                Some(message) => self.panels[panel].taken.insert(*message),
+                None => self.void = true,
+            },
+            Call::Clock { reading, .. } => self.panels[panel].time = *reading,
+        }
+        for record in output.chunks_exact(LOG_RECORD).take(answer.count) {
+            let message = self.message(record[0], deadline_of(&record[1..5]));
+            let at = &mut self.panels[panel];
+            at.log.push(message);
+            at.logged.insert(message);
+            at.past.insert(message);
+            at.past.join(&self.messages[message].before);
+        }
+    }
+
+    /// A message was sent: before it in cause are those of the sender's log just before the call,
+    /// and all before them.
+    fn sent(&mut self, panel: usize, frame: &[u8]) {
+        let message = self.message(frame[5], deadline_of(&frame[6..10]));
+        self.messages[message].before.join(&self.panels[panel].past);
+        self.panels[panel].sent.insert(message);
+        self.frames.insert(frame.to_vec(), message);
+    }
+
+    /// Checks the claims for the whole list so far. The error has the words of one that does not
+    /// hold, and the place of the panel.
+    pub fn check(&self) -> Result<Spoken, (String, usize)> {
+        let mut spoken = Spoken::default();
+        for (place, at) in self.panels.iter().enumerate() {
+            let checked = self.check_order(at).and_then(|()| self.check_standing(at));
+            let more = checked.map_err(|what| (what, place))?;
+            spoken.messages += more.messages;
+            spoken.waiting += more.waiting;
+        }
+        Ok(spoken)
+    }
+
+    /// No message stands twice in the log, and none ahead of one before it in cause.
+    fn check_order(&self, at: &At) -> Result<(), String> {
+        let (mut earlier, mut before_earlier) = (Bits::default(), Bits::default());
+        for message in &at.log {
+            if earlier.has(*message) {
+                return Err(format!("{} stands in the log twice", self.name(*message)));
+            }
+            if before_earlier.has(*message) {
+                let mut log = at.log.iter();
+                let ahead = log.find(|ahead| self.messages[**ahead].before.has(*message));
+                let (ahead, name) = (self.name(*ahead.unwrap_or(message)), self.name(*message));
+                return Err(format!(
+                    "{ahead} stands ahead of {name}, which is before it in cause"
+                ));
+            }
+            earlier.insert(*message);
+            before_earlier.join(&self.messages[*message].before);
+        }
+        Ok(())
+    }
+
+    /// A message sent or taken there and not lapsed there stands in the log exactly when every
+    /// message before it in cause stands in that log or has lapsed there.
+    fn check_standing(&self, at: &At) -> Result<Spoken, String> {
+        let mut lapsed = Bits::default();
+        for (number, message) in self.messages.iter().enumerate() {
+            if message.deadline < at.time {
+                lapsed.insert(number);
+            }
+        }
+        let mut spoken = Spoken::default();
+        for (number, message) in self.messages.iter().enumerate() {
+            let there = at.sent.has(number) || at.taken.has(number);
+            if !there || lapsed.has(number) {
+                continue;
+            }
+            spoken.messages += 1;
+            spoken.waiting += u64::from(!at.logged.has(number));
+            let missing = message.before.first_outside(&at.logged, &lapsed);
+            if at.logged.has(number) != missing.is_none() {
+                return Err(self.wrong_standing(number, missing));
+            }
+        }
+        Ok(spoken)
+    }
+
+    /// The words for a message that stands in the log though one before it is missing, or that does
+    /// not stand there though none is.
+    fn wrong_standing(&self, number: usize, missing: Option<usize>) -> String {
+        let name = self.name(number);
+        match missing.map(|missing| self.name(missing)) {
+            Some(missing) => format!(
+                "{name} stands in the log, but {missing}, before it in cause, neither does nor has \
+                 lapsed"
+            ),
+            None => format!(
+                "{name} does not stand in the log, but all before it in cause do or have lapsed"
+            ),
+        }
+    }
+
+    fn name(&self, number: usize) -> String {
+        let message = &self.messages[number];
+        format!("message {} of panel {}", message.deadline, message.source)
+    }
+}
+
+/// A deadline's four bytes, the highest first.
+fn deadline_of(bytes: &[u8]) -> u32 {
+    bytes
+        .iter()
+        .fold(0, |deadline, byte| deadline << 8 | u32::from(*byte))
+}

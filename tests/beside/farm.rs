@@ -1,0 +1,194 @@
+//! A farm: the panels of one list, the frames that they hold, and what can be done with them.
+
+use crate::bits::Bits;
+use crate::calls::Call;
+use crate::claims::{Claims, Spoken};
+use crate::compose;
+use crate::plan::{Order, Plan};
+use crate::random::Random;
+use crate::second::{Answer, FRAME, OUTPUT};
+use crate::side::{Found, Side};
+
+/// A panel of the farm, with its clock and the frames that it can pass on.
+pub struct Member<Panel> {
+    pub panel: Panel,
+    pub number: u8,
+    pub time: u32,
+    /// What the panel's clock shows. It may go another way than that of other panels.
+    pub clock: u32,
+    held: Vec<usize>,
+    holds: Bits,
+}
+
+pub struct Farm<'side, S: Side> {
+    side: &'side mut S,
+    pub random: Random,
+    pub plan: Plan,
+    pub members: Vec<Member<S::Panel>>,
+    /// The frames that the list sent, in that order.
+    pub frames: Vec<Vec<u8>>,
+    pub claims: Claims,
+    pub calls: usize,
+    pub claim_checks: u64,
+}
+
+impl<'side, S: Side> Farm<'side, S> {
+    /// Fresh panels, no two of the same number.
+    pub fn new(side: &'side mut S, plan: Plan, mut random: Random) -> Result<Self, Found> {
+        let mut numbers: Vec<u8> = (0..64).collect();
+        random.shuffle(&mut numbers);
+        let mut members = Vec::new();
+        for number in numbers.into_iter().take(plan.panels) {
+            members.push(Member {
+                panel: side.fresh(number)?,
+                number,
+                time: 0,
+                clock: plan.clocks.first_reading(&mut random),
+                held: Vec::new(),
+                holds: Bits::default(),
+            });
+        }
+        let claims = Claims::new(members.len());
+        Ok(Farm {
+            side,
+            random,
+            plan,
+            members,
+            frames: Vec::new(),
+            claims,
+            calls: 0,
+            claim_checks: 0,
+        })
+    }
+
+    /// Makes a call at a panel, and keeps what came of it.
+    pub fn call(&mut self, place: usize, call: &Call) -> Result<Answer, Found> {
+        let member = &mut self.members[place];
+        let answer = self.side.call(&mut member.panel, call)?;
+        self.calls += 1;
+        if self.plan.lawful {
+            let (output, frame) = (self.side.output(), self.side.frame());
+            self.claims.after(place, call, answer, output, frame);
+        }
+        if answer.number == 0 {
+            match call {
+                Call::Send { .. } => {
+                    let frame = self.side.frame();
+                    let bytes = frame[..answer.length.min(frame.len())].to_vec();
+                    self.frames.push(bytes);
+                    self.hold(place, self.frames.len() - 1);
+                }
+                Call::Clock { reading, .. } => member.time = *reading,
+                Call::Receive { .. } => {}
+            }
+        }
+        if self.calls <= 40 || self.random.chance(2) {
+            self.check_claims()?;
+        }
+        Ok(answer)
+    }
+
+    /// Checks the claims of demand 3 for the list so far, if the list keeps to its condition.
+    pub fn check_claims(&mut self) -> Result<Spoken, Found> {
+        if !self.plan.lawful || self.claims.void {
+            return Ok(Spoken::default());
+        }
+        self.claim_checks += 1;
+        self.claims.check().map_err(|(what, place)| {
+            let member = &self.members[place];
+            let what = format!("demand 3, panel {}: {what}", member.number);
+            Found::new(what).with(self.side.script(&member.panel))
+        })
+    }
+
+    fn hold(&mut self, place: usize, frame: usize) {
+        let member = &mut self.members[place];
+        if !member.holds.has(frame) {
+            member.holds.insert(frame);
+            member.held.push(frame);
+        }
+    }
+
+    /// Buffers that are long enough.
+    fn lent(&mut self, call: Call) -> Call {
+        let longer = |random: &mut Random| match random.below(4) {
+            0 => random.below(200),
+            1 => 1,
+            _ => 0,
+        };
+        let output = OUTPUT + longer(&mut self.random);
+        call.lent(output, FRAME + longer(&mut self.random))
+    }
+
+    pub fn send(&mut self, place: usize) -> Result<(), Found> {
+        let payload = compose::payload(&mut self.random);
+        let lifetime = self.plan.lifetimes.any(&mut self.random);
+        let call = self.lent(Call::send(&payload, lifetime));
+        self.call(place, &call).map(|_| ())
+    }
+
+    /// A panel's clock goes on and is read. At times it jumps, or shows the very deadline of a
+    /// message.
+    pub fn clock(&mut self, place: usize) -> Result<(), Found> {
+        let step = self.random.below(self.plan.clock_step + 1) as u32;
+        let member = &mut self.members[place];
+        let mut reading = member.clock.max(member.time).saturating_add(step);
+        if self.random.chance(self.plan.jumps) {
+            reading = reading.saturating_add(self.random.any_size());
+        }
+        if self.random.chance(30) && !self.frames.is_empty() {
+            let last = self.frames.len().min(12);
+            let recent = self.frames.len() - 1 - self.random.below(last);
+            let edge = compose::deadline_of(&self.frames[recent]);
+            let edge = edge.saturating_add(self.random.below(2) as u32);
+            let near = edge >= member.time && edge - member.time <= self.plan.clocks.near();
+            reading = if near { edge } else { reading };
+        }
+        member.clock = reading;
+        let call = self.lent(Call::clock(reading));
+        self.call(place, &call).map(|_| ())
+    }
+
+    /// Whether a frame is not passed on to this panel yet.
+    fn held_back(&self, frame: usize, taker: usize) -> bool {
+        self.plan.held_back
+            && self.calls < self.plan.calls / 2
+            && taker == self.members.len() - 1
+            && self.frames[frame][5] == self.members[0].number
+    }
+
+    /// Two panels meet: one passes frames on that it holds, own and carried. Some are lost.
+    pub fn contact(&mut self, giver: usize, taker: usize) -> Result<(), Found> {
+        let copies = self.random.pick(&[0, 0, 5, 25]);
+        let (holds, time) = (&self.members[taker].holds, self.members[taker].time);
+        let mut passed = Vec::new();
+        for frame in &self.members[giver].held {
+            if self.held_back(*frame, taker) {
+                continue;
+            }
+            let lapsed = compose::deadline_of(&self.frames[*frame]) < time;
+            let new = !holds.has(*frame) && (!lapsed || self.random.chance(20));
+            if new || self.random.chance(copies) {
+                passed.push(*frame);
+            }
+        }
+        match self.plan.order {
+            Order::Any => self.random.shuffle(&mut passed),
+            Order::OldestFirst => passed.sort_unstable(),
+            Order::NewestFirst => passed.sort_unstable_by(|one, other| other.cmp(one)),
+        }
+        passed.truncate(self.random.between(1, self.plan.most_passed));
+        for frame in passed {
+            if self.random.chance(self.plan.lost) {
+                continue;
+            }
+            let call = self.lent(Call::receive(&self.frames[frame]));
+            let answer = self.call(taker, &call)?;
+            // Refused for lack of places, it may be passed on again.
+            if answer.number != 23 {
+                self.hold(taker, frame);
+            }
+        }
+        Ok(())
+    }
+}

@@ -1,0 +1,115 @@
+//! Frames through the frame check and through receive: damaged at every byte, cut, extended, and
+//! random ones of every length.
+
+use crate::calls::Call;
+use crate::compare::Both;
+use crate::compose;
+use crate::module;
+use crate::random::Random;
+use crate::second::Message;
+use crate::side::{Found, Side};
+
+/// Bytes of the longest random frame.
+const LONGEST: usize = 400;
+
+pub fn run(both: &mut Both, seed: u64, rounds: u64) -> Result<(), Found> {
+    for round in 0..rounds {
+        let mut random = Random::new(seed, round);
+        for length in 0..=LONGEST {
+            let mut bytes = random.bytes(length);
+            tried(both, &bytes, &mut random)?;
+            let start = compose::readable(round as u8 % 64, &[9, 1 << 20, u32::MAX], &mut random);
+            let known = random.below(start.len() + 1).min(length);
+            bytes[..known].copy_from_slice(&start[..known]);
+            tried(both, &bytes, &mut random)?;
+        }
+        for entries in [0, 4, 64] {
+            let frame = sample(entries, &mut random);
+            damaged_everywhere(both, &frame, &mut random)?;
+            damaged_twice(both, &frame, &mut random)?;
+        }
+    }
+    Ok(())
+}
+
+/// A readable frame with about so many entries.
+fn sample(many: usize, random: &mut Random) -> Vec<u8> {
+    let deadline = random.pick(&[2, 1000, 1 << 24, u32::MAX]);
+    let mut entries = Vec::new();
+    for panel in 0..64 {
+        if random.below(64) < many {
+            entries.push((panel, random.any_size() % (deadline - 1) + 1));
+        }
+    }
+    let source = random.below(64) as u8;
+    compose::frame(source, deadline, &entries, &compose::payload(random))
+}
+
+/// Each byte changed in several ways, each cut, and some bytes more.
+fn damaged_everywhere(both: &mut Both, frame: &[u8], random: &mut Random) -> Result<(), Found> {
+    tried(both, frame, random)?;
+    for place in 0..frame.len() {
+        tried(both, &frame[..place], random)?;
+        let byte = frame[place];
+        for changed in [
+            0,
+            1,
+            32,
+            33,
+            63,
+            64,
+            255,
+            byte ^ 1,
+            byte ^ 128,
+            byte.wrapping_add(1),
+        ] {
+            let mut bytes = frame.to_vec();
+            bytes[place] = changed;
+            tried(both, &bytes, random)?;
+        }
+    }
+    // The last is as long as the frame if only 16 bits of the length were looked at.
+    for more in (1..20).chain([65_536]) {
+        let mut bytes = frame.to_vec();
+        bytes.extend(random.bytes(more));
+        tried(both, &bytes, random)?;
+    }
+    Ok(())
+}
+
+/// Two of the reading's numbers apply, in each of their pairs.
+fn damaged_twice(both: &mut Both, frame: &[u8], random: &mut Random) -> Result<(), Found> {
+    for one in 1..=8 {
+        for other in 1..one {
+            for _ in 0..4 {
+                let once = compose::damaged(frame, one, random);
+                if once.len() >= frame.len() {
+                    tried(both, &compose::damaged(&once, other, random), random)?;
+                }
+            }
+        }
+    }
+    Ok(())
+}
+
+/// The frame check and a receive of these bytes.
+fn tried(both: &mut Both, bytes: &[u8], random: &mut Random) -> Result<(), Found> {
+    let by_module = module::frame_check(bytes);
+    let by_second = Message::read(bytes).err().unwrap_or(0);
+    both.counts.check(by_module);
+    let call = Call::receive(bytes);
+    if by_module != by_second {
+        let what = format!("frame check: module {by_module}, second {by_second}");
+        return Err(Found::new(what).within(call));
+    }
+    let mut pair = both.fresh(random.below(64) as u8)?;
+    let answer = both.call(&mut pair, &call)?;
+    let refused_by_state = answer.number >= 20;
+    match by_module == answer.number || by_module == 0 && refused_by_state {
+        true => Ok(()),
+        false => {
+            let what = format!("frame check {by_module}, but receive {}", answer.number);
+            Err(Found::new(what).within(call))
+        }
+    }
+}

@@ -1,0 +1,175 @@
+//! A second implementation beside the module: makes the same calls on both and compares them, and
+//! checks the claims of demand 3 on what the module wrote.
+
+mod bits;
+mod bundles;
+mod calls;
+mod cases;
+mod claims;
+mod compare;
+mod compose;
+mod counts;
+mod farm;
+mod frames;
+mod hexadecimal;
+mod kept;
+mod lists;
+mod module;
+mod plan;
+mod random;
+mod records;
+mod room;
+mod same;
+mod script;
+mod second;
+mod side;
+mod trials;
+
+use compare::Both;
+use random::Random;
+use side::Found;
+use std::path::PathBuf;
+use std::process::ExitCode;
+use std::{env, fs};
+
+const USAGE: &str = "\
+usage: beside [--seed N] [--calls N] [--list PATH] [--faults | --replay FILE]
+
+Makes the same calls on the module and on a second implementation, and compares numbers, records
+and all bytes of the lent buffers; checks the claims of demand 3 on the logs that the module wrote.
+
+  --seed N       other random calls; 1 if not given
+  --calls N      calls in lists, with which the other parts grow; 1000000 if not given
+  --list PATH    the program list; target/bin/list if not given
+  --faults       plants faults in the second implementation, one at a time, and fails if one goes
+                 unnoticed
+  --replay FILE  makes the calls of a file, as a difference prints them
+";
+
+struct Options {
+    seed: u64,
+    calls: u64,
+    list: PathBuf,
+    faults: bool,
+    replay: Option<PathBuf>,
+}
+
+/// Reads the options, or gives none if they are wrong.
+fn options() -> Option<Options> {
+    let mut options = Options {
+        seed: 1,
+        calls: 1_000_000,
+        list: PathBuf::from("target/bin/list"),
+        faults: false,
+        replay: None,
+    };
+    let mut arguments = env::args().skip(1);
+    while let Some(argument) = arguments.next() {
+        match argument.as_str() {
+            "--seed" => options.seed = arguments.next()?.parse().ok()?,
+            "--calls" => options.calls = arguments.next()?.parse().ok()?,
+            "--list" => options.list = PathBuf::from(arguments.next()?),
+            "--faults" => options.faults = true,
+            "--replay" => options.replay = Some(PathBuf::from(arguments.next()?)),
+            _ => return None,
+        }
+    }
+    Some(options)
+}
+
+/// All parts, without faults: those that are soon done come first.
+fn compare_all(options: &Options, both: &mut Both) -> Result<(), Found> {
+    let Options {
+        seed,
+        calls,
+        ref list,
+        ..
+    } = *options;
+    let part = |name: &'static str, words: &str| {
+        println!("{name}: {words}");
+        move |found: Found| found.within(format!("part {name}"))
+    };
+    let named = part("cases", "document 01's bench cases 1 to 12");
+    cases::run(both, list).map_err(named)?;
+    let named = part("bundles", "bundles at every place, and logs at every index");
+    bundles::readers(both, seed, calls / 1_000 + 1).map_err(named)?;
+    let named = part(
+        "frames",
+        "damaged and random frames through the frame check and receive",
+    );
+    frames::run(both, seed, calls / 100_000 + 1).map_err(named)?;
+    let named = part("listings", "random bundles through the program list");
+    bundles::listings(both, seed, calls / 5_000 + 10, list).map_err(named)?;
+    let named = part("records", "calls on any records, whole and broken");
+    records::run(both, seed, calls / 25 + 1).map_err(named)?;
+    let named = part(
+        "lists",
+        "random lists of calls over 2 to 64 panels, with demand 3's claims",
+    );
+    let done = lists::run(both, seed, calls, false).map_err(named)?;
+    both.counts.lists(&done);
+    match (done.void, both.counts.missing()) {
+        (0, missing) if missing.is_empty() => Ok(()),
+        (0, missing) => Err(Found::new(missing.join(", "))),
+        (void, _) => Err(Found::new(format!(
+            "{void} lists took a frame that nobody had sent, against their plan"
+        ))),
+    }
+}
+
+/// Makes the calls of a file, and prints each answer.
+fn replay(file: &PathBuf, both: &mut Both) -> Result<(), Found> {
+    let text = fs::read_to_string(file)
+        .map_err(|error| Found::new(format!("{}: {error}", file.display())))?;
+    let scripts = script::read(&text)
+        .map_err(|line| Found::new(format!("{}: this line is no call: {line}", file.display())))?;
+    for script in scripts {
+        script.run(both, |call, answer| println!("{call}\n    {answer}"))?;
+    }
+    Ok(())
+}
+
+/// Prints what a run found.
+fn print(found: Found, seed: u64) {
+    eprint!("beside: seed {seed}\n{}", found.place);
+    if let Some(script) = &found.script {
+        eprint!("the calls on this panel, as --replay reads them:\n{script}");
+    }
+    eprintln!("{}", found.what);
+    let Some(script) = found.script else {
+        return;
+    };
+    let many = script.calls.len();
+    match script.shortened() {
+        (shorter, Some(difference)) if shorter.calls.len() < many => {
+            eprint!("these calls are enough:\n{shorter}");
+            eprintln!("{}", difference.what);
+        }
+        _ => {}
+    }
+}
+
+fn main() -> ExitCode {
+    let Some(options) = options() else {
+        eprint!("{USAGE}");
+        return ExitCode::from(2);
+    };
+    let mut both = Both::new(Random::new(options.seed, 0));
+    let result = match (&options.replay, options.faults) {
+        (Some(file), _) => replay(file, &mut both),
+        (None, true) => trials::run(options.seed, &options.list),
+        (None, false) => compare_all(&options, &mut both),
+    };
+    match result {
+        Ok(()) => {
+            if options.replay.is_none() && !options.faults {
+                print!("{}", both.counts.table());
+            }
+            ExitCode::SUCCESS
+        }
+        Err(found) => {
+            print(found, options.seed);
+            ExitCode::FAILURE
+        }
+    }
+}

@@ -1,0 +1,136 @@
+//! The record that the module's calls work on, with the layout that panel.h gives.
+
+use crate::compose;
+use crate::kept::Kept;
+use crate::random::Random;
+use std::mem::{offset_of, size_of};
+use std::slice;
+
+const WAITING: usize = 32;
+const SLOT: usize = 309;
+const SLOTS: usize = WAITING * SLOT;
+/// Bytes around the record that no call may touch.
+const MARGIN: usize = 320;
+
+/// The record, all bytes of it named, between two margins.
+#[repr(C)]
+#[derive(Clone)]
+pub struct Record {
+    margin_before: [u8; MARGIN],
+    pub own: u8,
+    between_own_and_time: [u8; 3],
+    pub time: u32,
+    pub high: u32,
+    between_high_and_count: [u8; 4],
+    pub count: usize,
+    pub marks: [u32; 64],
+    pub barrier: [u32; 64],
+    pub slots: [u8; SLOTS],
+    margin_behind: [u8; MARGIN],
+}
+
+const _: () = assert!(offset_of!(Record, time) == MARGIN + 4);
+const _: () = assert!(offset_of!(Record, high) == MARGIN + 8);
+const _: () = assert!(offset_of!(Record, count) == MARGIN + 16);
+const _: () = assert!(offset_of!(Record, marks) == MARGIN + 24);
+const _: () = assert!(offset_of!(Record, barrier) == MARGIN + 280);
+const _: () = assert!(offset_of!(Record, slots) == MARGIN + 536);
+const _: () = assert!(size_of::<Record>() == 2 * MARGIN + 10_424);
+
+impl Record {
+    /// A record of random bytes.
+    pub fn random(random: &mut Random) -> Box<Record> {
+        let mut record = Box::new(Record {
+            margin_before: [0; MARGIN],
+            own: 0,
+            between_own_and_time: [0; 3],
+            time: 0,
+            high: 0,
+            between_high_and_count: [0; 4],
+            count: 0,
+            marks: [0; 64],
+            barrier: [0; 64],
+            slots: [0; SLOTS],
+            margin_behind: [0; MARGIN],
+        });
+        random.fill(record.bytes_mut());
+        record
+    }
+
+    /// A kept record. All bytes that are no part of it are random, but for a readable frame behind
+    /// the last slot: a module that goes on reading there is to be noticed.
+    pub fn kept(kept: &Kept, random: &mut Random) -> Box<Record> {
+        let mut record = Record::random(random);
+        let one_more = compose::frame(1, 9, &[], b"");
+        record.margin_behind[..2].copy_from_slice(&[0, one_more.len() as u8]);
+        record.margin_behind[2..2 + one_more.len()].copy_from_slice(&one_more);
+        (record.own, record.time, record.high) = (kept.own, kept.time, kept.high);
+        (record.marks, record.barrier) = (kept.marks, kept.barrier);
+        record.count = kept.count;
+        for (slot, frame) in record.slots.chunks_mut(SLOT).zip(&kept.frames) {
+            slot[..2].copy_from_slice(&(frame.len() as u16).to_be_bytes());
+            let room = frame.len().min(SLOT - 2);
+            slot[2..2 + room].copy_from_slice(&frame[..room]);
+        }
+        record
+    }
+
+    /// Every byte of the record, of what lies between its fields, and of the margins.
+    pub fn bytes(&self) -> &[u8] {
+        // There are no bytes but those of the fields, and any bytes are a value of each.
+        unsafe { slice::from_raw_parts((self as *const Record).cast(), size_of::<Record>()) }
+    }
+
+    pub fn bytes_mut(&mut self) -> &mut [u8] {
+        unsafe { slice::from_raw_parts_mut((self as *mut Record).cast(), size_of::<Record>()) }
+    }
+
+    /// The bytes that belong to no field.
+    pub fn outside(&self) -> [&[u8]; 4] {
+        [
+            &self.margin_before,
+            &self.between_own_and_time,
+            &self.between_high_and_count,
+            &self.margin_behind,
+        ]
+    }
+
+    /// The frame in this slot.
+    pub fn waiting(&self, place: usize) -> &[u8] {
+        let slot = &self.slots[place * SLOT..(place + 1) * SLOT];
+        let length = usize::from(u16::from_be_bytes([slot[0], slot[1]]));
+        &slot[2..2 + length.min(SLOT - 2)]
+    }
+
+    /// What stands at this place of `bytes`.
+    pub fn name_of(place: usize) -> String {
+        let slots = offset_of!(Record, slots);
+        let fields = [
+            (offset_of!(Record, margin_behind), "the margin behind"),
+            (slots, "slots"),
+            (offset_of!(Record, barrier), "barrier"),
+            (offset_of!(Record, marks), "marks"),
+            (offset_of!(Record, count), "count"),
+            (
+                offset_of!(Record, between_high_and_count),
+                "between high and count",
+            ),
+            (offset_of!(Record, high), "high"),
+            (offset_of!(Record, time), "time"),
+            (
+                offset_of!(Record, between_own_and_time),
+                "between own and time",
+            ),
+            (offset_of!(Record, own), "own"),
+            (0, "the margin before"),
+        ];
+        let of_place = fields.iter().find(|(start, _)| *start <= place);
+        let (start, name) = of_place.copied().unwrap_or((0, ""));
+        let within = place - start;
+        match name {
+            "slots" => format!("slot {} byte {}", within / SLOT, within % SLOT),
+            "marks" | "barrier" => format!("{name} {} byte {}", within / 4, within % 4),
+            _ => format!("{name} byte {within}"),
+        }
+    }
+}

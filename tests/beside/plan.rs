@@ -1,0 +1,153 @@
+//! What kind of list is made: how many panels and calls, how the clocks go, who passes what on.
+
+use crate::random::Random;
+
+/// How far the clocks of the panels are apart.
+#[derive(Clone, Copy)]
+pub enum Clocks {
+    /// A few seconds.
+    Near,
+    /// Minutes.
+    Apart,
+    /// Up to the whole range of 32 bits.
+    Wide,
+    /// Near the last second.
+    Last,
+}
+
+impl Clocks {
+    /// What a panel's clock shows at first.
+    pub fn first_reading(self, random: &mut Random) -> u32 {
+        match self {
+            Clocks::Near => 100 + random.below(4) as u32,
+            Clocks::Apart => random.below(500) as u32,
+            Clocks::Wide => random.any_size(),
+            Clocks::Last => u32::MAX - random.below(4000) as u32,
+        }
+    }
+
+    /// How far ahead a deadline may be to be set as a time.
+    pub fn near(self) -> u32 {
+        match self {
+            Clocks::Near => 20,
+            Clocks::Apart => 1500,
+            Clocks::Wide => u32::MAX,
+            Clocks::Last => 4000,
+        }
+    }
+}
+
+/// How long messages live.
+#[derive(Clone, Copy)]
+pub enum Lifetimes {
+    Short,
+    Default,
+    Any,
+}
+
+impl Lifetimes {
+    pub fn any(self, random: &mut Random) -> u16 {
+        match self {
+            Lifetimes::Short => random.between(1, 25) as u16,
+            Lifetimes::Default => 0,
+            Lifetimes::Any => match random.below(8) {
+                0 => 0,
+                1 => 1,
+                2 => random.next() as u16,
+                _ => random.below(300) as u16,
+            },
+        }
+    }
+}
+
+/// In which order frames are passed on.
+#[derive(Clone, Copy)]
+pub enum Order {
+    Any,
+    OldestFirst,
+    NewestFirst,
+}
+
+#[derive(Clone, Copy)]
+pub struct Plan {
+    pub panels: usize,
+    pub calls: usize,
+    /// The list keeps to the condition of demand 3: frames received were sent in the list, or are
+    /// refused.
+    pub lawful: bool,
+    pub clocks: Clocks,
+    pub clock_step: usize,
+    /// How many clock calls in a hundred jump ahead.
+    pub jumps: usize,
+    pub lifetimes: Lifetimes,
+    pub order: Order,
+    /// How many frames in a hundred are lost at a contact.
+    pub lost: usize,
+    pub most_passed: usize,
+    /// The last panel gets no frames of the first one in the first half of the list.
+    pub held_back: bool,
+    /// How often, one against the other: send, contact, clock, odd call, forged frame.
+    pub often: [usize; 5],
+}
+
+/// How many panels a farm has.
+fn panels(random: &mut Random) -> usize {
+    match random.below(4) {
+        0 => 2,
+        1 => random.between(3, 5),
+        2 => random.between(6, 16),
+        _ => random.between(17, 64),
+    }
+}
+
+/// How many calls a list has.
+fn calls(random: &mut Random) -> usize {
+    match random.below(8) {
+        0 | 1 => random.between(10, 60),
+        2..=4 => random.between(100, 500),
+        5 | 6 => random.between(600, 1500),
+        _ => random.between(2000, 4000),
+    }
+}
+
+impl Plan {
+    pub fn any(random: &mut Random, lawful: bool) -> Plan {
+        use Clocks::{Apart, Last, Near, Wide};
+        use Order::{Any, NewestFirst, OldestFirst};
+        let mut plan = Plan {
+            panels: panels(random),
+            calls: calls(random),
+            lawful,
+            clocks: random.pick(&[Near, Near, Apart, Apart, Wide, Last]),
+            clock_step: random.pick(&[0, 1, 3, 30]),
+            jumps: random.pick(&[0, 0, 0, 2]),
+            lifetimes: random.pick(&[Lifetimes::Short, Lifetimes::Default, Lifetimes::Any]),
+            order: random.pick(&[Any, Any, OldestFirst, NewestFirst]),
+            lost: random.pick(&[0, 5, 30]),
+            most_passed: random.pick(&[2, 8, 50]),
+            held_back: random.chance(25),
+            often: [30, 30, 15, 10, 0],
+        };
+        if random.chance(20) {
+            plan.fills_up(random);
+        }
+        if !lawful {
+            plan.often[4] = random.pick(&[20, 100]);
+        }
+        plan
+    }
+
+    /// A list in which many messages wait: few panels send much and meet rarely, and pass the
+    /// newest frames on first.
+    fn fills_up(&mut self, random: &mut Random) {
+        self.panels = random.between(2, 6);
+        self.calls = self.calls.max(200);
+        self.clocks = random.pick(&[Clocks::Near, Clocks::Apart, Clocks::Wide]);
+        self.clock_step = 1;
+        self.lifetimes = random.pick(&[Lifetimes::Default, Lifetimes::Any]);
+        self.order = Order::NewestFirst;
+        self.lost = random.pick(&[0, 10]);
+        self.most_passed = 60;
+        self.often = [80, 4, 4, 4, 0];
+    }
+}

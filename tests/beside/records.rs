@@ -1,0 +1,233 @@
+//! Calls on records that no list need ever reach: whatever 26 lets through, and records broken in
+//! each of its ways.
+
+use crate::calls::Call;
+use crate::compare::Both;
+use crate::compose;
+use crate::kept::Kept;
+use crate::random::Random;
+use crate::second::{FRAME, OUTPUT, WAITING};
+use crate::side::{Found, Side};
+
+/// The ways in which a record is broken.
+const WAYS: u64 = 14;
+
+/// So many records that 26 lets through, with some calls on each, and as many broken ones.
+pub fn run(both: &mut Both, seed: u64, records: u64) -> Result<(), Found> {
+    for number in 0..=u8::MAX {
+        both.fresh(number)?;
+    }
+    for round in 0..records {
+        let mut random = Random::new(seed, round);
+        let numbers = numbers(&mut random);
+        let mut kept = sound(&numbers, &mut random);
+        let mut pair = both.kept(&kept);
+        for _ in 0..random.between(1, 4) {
+            let call = any_call(random.below(3), &kept, &numbers, &mut random);
+            both.call(&mut pair, &call)
+                .map_err(|found| found.within(format!("record {round}")))?;
+        }
+        let way = round % WAYS;
+        damage(&mut kept, way, &mut random);
+        let mut pair = both.kept(&kept);
+        for kind in 0..3 {
+            let call = any_call(kind, &kept, &numbers, &mut random);
+            let answer = both
+                .call(&mut pair, &call)
+                .map_err(|found| found.within(format!("record {round}, broken in way {way}")))?;
+            if answer.number != 26 {
+                let what = format!("{} instead of 26 for {kept}", answer.number);
+                return Err(Found::new(what));
+            }
+        }
+    }
+    Ok(())
+}
+
+/// A few times and deadlines, some next to each other.
+fn numbers(random: &mut Random) -> Vec<u32> {
+    let middle = match random.below(3) {
+        0 => random.below(10) as u32,
+        1 => u32::MAX - random.below(10) as u32,
+        _ => random.any_size(),
+    };
+    let near = |change: usize| middle.saturating_add(change as u32).saturating_sub(3);
+    let mut numbers: Vec<u32> = (0..4).map(|_| near(random.below(7))).collect();
+    numbers.push(random.any_size());
+    numbers.push(middle.saturating_add(random.below(2000) as u32));
+    numbers
+}
+
+/// 64 numbers up to high.
+fn entries(numbers: &[u32], high: u32, random: &mut Random) -> [u32; 64] {
+    let often = random.pick(&[0, 10, 50, 100]);
+    [0; 64].map(|none| match random.chance(often) {
+        true => random.pick(numbers).min(high),
+        false => none,
+    })
+}
+
+/// A record that 26 lets through.
+fn sound(numbers: &[u32], random: &mut Random) -> Kept {
+    let high = random.pick(numbers);
+    let count = match random.below(4) {
+        0 => random.below(3),
+        1 => random.between(31, 32),
+        _ => random.below(WAITING + 1),
+    };
+    let mut kept = Kept {
+        own: random.below(64) as u8,
+        time: random.pick(numbers),
+        high,
+        marks: entries(numbers, high, random),
+        barrier: entries(numbers, high, random),
+        count,
+        frames: Vec::new(),
+    };
+    if random.chance(20) {
+        kept.frames = chain(kept.time, count, random);
+        return kept;
+    }
+    for place in 0..count {
+        let frame = any_frame(&kept, numbers, random);
+        let frame = match place > 0 && random.chance(15) {
+            true => kept.frames[random.below(place)].clone(),
+            false => frame,
+        };
+        kept.frames.push(frame);
+    }
+    kept
+}
+
+/// Messages each of which waits for the one before it, and the first for one of panel 62, in any
+/// order.
+fn chain(time: u32, count: usize, random: &mut Random) -> Vec<Vec<u8>> {
+    let mut before = (62, time.max(1));
+    let mut frames = Vec::new();
+    for _ in 0..count {
+        let (source, deadline) = (random.below(62) as u8, before.1.saturating_add(1));
+        let entries = if before.1 < deadline {
+            vec![before]
+        } else {
+            vec![]
+        };
+        frames.push(compose::frame(
+            source,
+            deadline,
+            &entries,
+            &compose::payload(random),
+        ));
+        before = (source, deadline);
+    }
+    random.shuffle(&mut frames);
+    frames
+}
+
+/// A readable frame, at times with the source and the deadline of one that is waiting.
+fn any_frame(kept: &Kept, numbers: &[u32], random: &mut Random) -> Vec<u8> {
+    let few = random.pick(&[2, 8, 64]);
+    let source = match random.chance(5) {
+        true => kept.own,
+        false => random.below(few) as u8,
+    };
+    let mut frame = compose::readable(source, numbers, random);
+    let waiting = kept.frames.last().filter(|waiting| waiting.len() >= 19);
+    if let (true, Some(waiting)) = (random.chance(10), waiting) {
+        let (source, deadline) = (waiting[5], compose::deadline_of(waiting));
+        frame = compose::frame(source, deadline, &[], b"");
+    }
+    frame
+}
+
+/// A call of this kind: send, receive or clock.
+fn any_call(kind: usize, kept: &Kept, numbers: &[u32], random: &mut Random) -> Call {
+    let call = match kind {
+        0 => {
+            let length = random.between(33, 40);
+            let payload = match random.chance(10) {
+                true => random.bytes(length),
+                false => compose::payload(random),
+            };
+            let lifetime = random.pick(&[0, 1, 2, 3, 1199, 1200, 1201, u16::MAX]);
+            Call::send(&payload, lifetime)
+        }
+        1 => {
+            let frame = any_frame(kept, numbers, random);
+            match random.below(12) {
+                // The one that a chain waits for.
+                10 | 11 => Call::receive(&compose::frame(62, kept.time.max(1), &[], b"")),
+                0 => {
+                    let way = random.between(1, 8) as u8;
+                    Call::receive(&compose::damaged(&frame, way, random))
+                }
+                1 if !kept.frames.is_empty() => {
+                    Call::receive(&kept.frames[random.below(kept.frames.len())])
+                }
+                _ => Call::receive(&frame),
+            }
+        }
+        _ => {
+            let near = [kept.time, random.pick(numbers)];
+            let change = random.pick(&[0, 0, 1, u32::MAX]);
+            Call::clock(random.pick(&near).wrapping_add(change))
+        }
+    };
+    let output = compose::buffer_length(OUTPUT, random);
+    call.lent(output, compose::buffer_length(FRAME, random))
+}
+
+/// Breaks a record in one of the ways.
+fn damage(kept: &mut Kept, way: u64, random: &mut Random) {
+    let most = u32::MAX - 1;
+    kept.high = kept.high.min(most);
+    kept.marks = kept.marks.map(|mark| mark.min(most));
+    kept.barrier = kept.barrier.map(|entry| entry.min(most));
+    let panel = random.below(64);
+    let above = random.pick(&[kept.high + 1, u32::MAX]);
+    match way {
+        0 => {
+            let any = random.between(64, 255) as u8;
+            kept.own = random.pick(&[64, 65, 128, 255, any]);
+        }
+        1 => kept.marks[panel] = above,
+        2 => kept.barrier[panel] = above,
+        3 => {
+            let wrapped = usize::MAX / 309 + 1;
+            let huge = [1 << 16, 1 << 32, wrapped, 1 << 63, usize::MAX];
+            kept.count = match random.below(3) {
+                0 => 33,
+                1 => random.between(34, 70),
+                _ => random.pick(&huge),
+            };
+        }
+        _ => damage_waiting(kept, way, random),
+    }
+    while kept.frames.len() < kept.count.min(WAITING) {
+        kept.frames.push(compose::readable(1, &[5, 9], random));
+    }
+}
+
+/// Makes a waiting message one that no readable frame carries: for each of the reading's numbers,
+/// for a length that no slot has room for, and for no bytes at all.
+fn damage_waiting(kept: &mut Kept, way: u64, random: &mut Random) {
+    if kept.frames.is_empty() {
+        kept.frames.push(Vec::new());
+        kept.count = 1;
+    }
+    let any = random.below(kept.frames.len());
+    let place = random.pick(&[0, kept.frames.len() - 1, any]);
+    kept.frames[place] = match way {
+        4..=11 => {
+            let entries = [(3, 4), (9, 5), (63, 6)];
+            let frame = compose::frame(7, 8, &entries, &compose::payload(random));
+            compose::damaged(&frame, (way - 3) as u8, random)
+        }
+        12 => {
+            let entries: Vec<(u8, u32)> = (0..64).map(|panel| (panel, 1)).collect();
+            let mut frame = compose::frame(7, 9, &entries, &[1; 32]);
+            frame.resize(random.pick(&[308, 309, 310, 511, 512, 65_535]), 0);
+            frame
+        }
+        _ => Vec::new(),
+    };
+}

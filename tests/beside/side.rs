@@ -1,0 +1,118 @@
+//! What stands for the panels of a list: both implementations side by side (compare.rs), or the
+//! second alone, to see what the claims say of its planted faults.
+
+use crate::calls::Call;
+use crate::random::Random;
+use crate::room::Room;
+use crate::script::Script;
+use crate::second::{self, Answer};
+use std::fmt;
+
+/// What a run ends with that found something: the difference or the claim that does not hold, where
+/// it came up, and the calls on that panel that lead to it.
+pub struct Found {
+    pub what: String,
+    pub place: String,
+    pub script: Option<Script>,
+}
+
+impl Found {
+    pub fn new(what: impl Into<String>) -> Found {
+        Found {
+            what: what.into(),
+            place: String::new(),
+            script: None,
+        }
+    }
+
+    /// The same, with these calls.
+    pub fn with(mut self, script: Option<Script>) -> Found {
+        self.script = script;
+        self
+    }
+
+    /// The same, with a line in front of where it came up.
+    pub fn within(mut self, line: impl fmt::Display) -> Found {
+        self.place = format!("{line}\n{}", self.place);
+        self
+    }
+}
+
+pub trait Side {
+    type Panel;
+
+    fn fresh(&mut self, number: u8) -> Result<Self::Panel, Found>;
+
+    /// Makes a call. What it left in the lent buffers is then in `output` and `frame`.
+    fn call(&mut self, panel: &mut Self::Panel, call: &Call) -> Result<Answer, Found>;
+
+    fn output(&self) -> &[u8];
+
+    fn frame(&self) -> &[u8];
+
+    /// The calls on a panel so far, if they are kept.
+    fn script(&self, panel: &Self::Panel) -> Option<Script>;
+}
+
+/// Makes a call on the second implementation.
+pub fn call_second(
+    panel: &mut second::Panel,
+    call: &Call,
+    output: &mut [u8],
+    frame: &mut [u8],
+) -> Answer {
+    match call {
+        Call::Send {
+            payload, lifetime, ..
+        } => panel.send(payload, *lifetime, output, frame),
+        Call::Receive { bytes, .. } => panel.receive(bytes, output),
+        Call::Clock { reading, .. } => panel.clock(*reading, output),
+    }
+}
+
+/// The second implementation alone.
+pub struct Alone {
+    random: Random,
+    output: Room,
+    frame: Room,
+    pub calls: u64,
+}
+
+impl Alone {
+    pub fn new(random: Random) -> Alone {
+        Alone {
+            random,
+            output: Room::default(),
+            frame: Room::default(),
+            calls: 0,
+        }
+    }
+}
+
+impl Side for Alone {
+    type Panel = second::Panel;
+
+    fn fresh(&mut self, number: u8) -> Result<second::Panel, Found> {
+        Ok(second::fresh(number).0)
+    }
+
+    fn call(&mut self, panel: &mut second::Panel, call: &Call) -> Result<Answer, Found> {
+        self.output.lend(call.output(), &mut self.random);
+        self.frame.lend(call.frame(), &mut self.random);
+        let (output, frame) = (self.output.lent_mut(), self.frame.lent_mut());
+        self.calls += 1;
+        Ok(call_second(panel, call, output, frame))
+    }
+
+    fn output(&self) -> &[u8] {
+        self.output.lent()
+    }
+
+    fn frame(&self) -> &[u8] {
+        self.frame.lent()
+    }
+
+    fn script(&self, _: &second::Panel) -> Option<Script> {
+        None
+    }
+}

@@ -1,0 +1,182 @@
+//! Whether the planted faults are noticed, and how.
+
+use crate::compare::Both;
+use crate::random::Random;
+use crate::second::faults::{plant, Fault, FAULTS};
+use crate::side::{Alone, Found};
+use crate::{bundles, cases, frames, lists, records};
+use std::path::Path;
+use std::sync::atomic::{AtomicUsize, Ordering};
+use std::sync::Mutex;
+use std::thread;
+
+/// Threads that the faults are tried on.
+const THREADS: usize = 2;
+/// Calls of lists after which the claims have to have noticed a fault.
+const CLAIM_CALLS: u64 = 100_000;
+
+/// The faults that break demand 3: the claims alone have to notice them too, without the module.
+const BREAK_DEMAND_3: &[Fault] = &[
+    Fault::OnePassOverTheList,
+    Fault::BarrierEmptiedBeforeFrame,
+    Fault::EveryMessageHeldBack,
+    Fault::HandedOnArrival,
+    Fault::OneReadingForAll,
+    Fault::RecordAsItCame,
+    Fault::DroppedAtEqualTime,
+    Fault::DroppedIsHanded,
+    Fault::EntryMetAtEqualTime,
+    Fault::EntryMetByEqualMarkOnly,
+    Fault::LapsedEntryWaitedFor,
+    Fault::ClockDoesNotSettle,
+    Fault::BarrierNotRaisedByReceived,
+    Fault::BarrierNotRaisedByOwn,
+    Fault::LapsedEntriesStripped,
+    Fault::OwnEntryLeftOut,
+    Fault::DeadlineByTheClockAlone,
+    Fault::DeadlineNotAboveHigh,
+    Fault::DeadlinePastLastSent,
+    Fault::WaitingCopyTaken,
+    Fault::LoggedCopyTaken,
+    Fault::MaskFromTheTop,
+    Fault::EntriesHighestPanelFirst,
+    Fault::EntriesWrittenHighestPanelFirst,
+];
+
+/// How a fault was noticed: the part, and after how many calls.
+struct Noticed {
+    part: &'static str,
+    calls: u64,
+}
+
+/// What came of a fault: how comparing noticed it, and after how many calls the claims.
+struct Tried {
+    fault: Fault,
+    compared: Option<Noticed>,
+    claimed: Option<u64>,
+}
+
+/// A part of the run, so long.
+fn run_part(part: &str, long: u64, both: &mut Both, seed: u64, list: &Path) -> Result<(), Found> {
+    match part {
+        "cases" => cases::run(both, list),
+        "frames" => frames::run(both, seed, long),
+        "records" => records::run(both, seed ^ long, long),
+        "bundles" => bundles::readers(both, seed, long),
+        "listings" => bundles::listings(both, seed, long, list),
+        _ => lists::run(both, seed, long, false).map(|_| ()),
+    }
+}
+
+/// Runs both implementations, with the fault in the second, until they differ. What notices quickly
+/// comes first.
+fn compared(fault: Option<Fault>, seed: u64, list: &Path) -> Option<Noticed> {
+    let parts = [
+        ("cases", 1),
+        ("frames", 1),
+        ("bundles", 80),
+        ("lists", 2_000),
+        ("records", 500),
+        ("listings", 12),
+        ("lists", 30_000),
+        ("records", 10_000),
+        ("lists", 300_000),
+    ];
+    plant(fault);
+    let mut both = Both::new(Random::new(seed, 0));
+    let noticed = parts
+        .into_iter()
+        .find(|(part, long)| run_part(part, *long, &mut both, seed, list).is_err());
+    plant(None);
+    let calls = both.counts.calls();
+    noticed.map(|(part, _)| Noticed { part, calls })
+}
+
+/// Makes lists with the second implementation alone, until a claim does not hold.
+fn claimed(fault: Option<Fault>, seed: u64) -> Option<u64> {
+    plant(fault);
+    let mut alone = Alone::new(Random::new(seed, 0));
+    let found = lists::run(&mut alone, seed, CLAIM_CALLS, true);
+    plant(None);
+    found.err().map(|_| alone.calls)
+}
+
+/// Tries the faults on several threads. The results are in the order of the faults.
+fn tried(seed: u64, list: &Path) -> Vec<Tried> {
+    let next = AtomicUsize::new(0);
+    let all = Mutex::new(Vec::new());
+    let try_next = || loop {
+        let place = next.fetch_add(1, Ordering::Relaxed);
+        let Some(fault) = FAULTS.get(place).copied() else {
+            return;
+        };
+        let compared = compared(Some(fault), seed, list);
+        let breaks = BREAK_DEMAND_3.contains(&fault);
+        let claimed = breaks.then(|| claimed(Some(fault), seed)).flatten();
+        let tried = Tried {
+            fault,
+            compared,
+            claimed,
+        };
+        if let Ok(mut all) = all.lock() {
+            all.push((place, tried));
+        }
+    };
+    thread::scope(|scope| {
+        for _ in 0..THREADS {
+            scope.spawn(try_next);
+        }
+    });
+    let mut all = all.into_inner().unwrap_or_default();
+    all.sort_by_key(|(place, _)| *place);
+    all.into_iter().map(|(_, tried)| tried).collect()
+}
+
+/// Prints what came of a fault; what went unnoticed.
+fn print(tried: &Tried) -> Vec<String> {
+    let Tried {
+        fault,
+        compared,
+        claimed,
+    } = tried;
+    let (part, calls) = match compared {
+        Some(noticed) => (noticed.part, noticed.calls.to_string()),
+        None => ("-", "-".to_string()),
+    };
+    let claims = claimed.map_or("-".to_string(), |calls| calls.to_string());
+    println!(
+        "{part:>8} {calls:>6} {claims:>6}  {fault:?}: {}",
+        fault.words()
+    );
+    let mut unnoticed = Vec::new();
+    if compared.is_none() {
+        unnoticed.push(format!("{fault:?} went unnoticed"));
+    }
+    if claimed.is_none() && BREAK_DEMAND_3.contains(fault) {
+        unnoticed.push(format!("{fault:?} went unnoticed by the claims"));
+    }
+    unnoticed
+}
+
+/// Tries all faults. The error names those that went unnoticed.
+pub fn run(seed: u64, list: &Path) -> Result<(), Found> {
+    println!("without a fault: nothing may be noticed");
+    if let Some(noticed) = compared(None, seed, list) {
+        let what = format!("the part {} fails without a fault", noticed.part);
+        return Err(Found::new(what));
+    }
+    if claimed(None, seed).is_some() {
+        return Err(Found::new("a claim does not hold, without a fault"));
+    }
+    println!(
+        "faults: {} planted in the second implementation, one at a time. The part that noticed",
+        FAULTS.len()
+    );
+    println!("it, after how many calls, and after how many the claims did on their own:");
+    let all = tried(seed, list);
+    let unnoticed: Vec<String> = all.iter().flat_map(print).collect();
+    match unnoticed.is_empty() && all.len() == FAULTS.len() {
+        true => Ok(()),
+        false => Err(Found::new(unnoticed.join(", "))),
+    }
+}

@@ -1,7 +1,8 @@
 #!/bin/sh
 # run.sh: installs the module to target/install, and tests what is installed there from C, C++ and
 # Rust, with each compiler that is there, and the program list. CC and CXX choose other compilers, as
-# in CC="gcc-13 clang-17". What is proved already is not proved again.
+# in CC="gcc-13 clang-17". rustc has to be there, as the second implementation is in Rust;
+# WITHOUT_RUST=1 leaves out what needs it. What is proved already is not proved again.
 set -eu
 cd "$(dirname "$0")/.."
 to=target/install # and no whole path, so that a blank in it does no harm
@@ -106,6 +107,13 @@ test_rust() {
     grep -q E0507 $built/log || fail "rustc turns tests/copied.rs down otherwise: $(cat $built/log)"
 }
 
+# A second implementation beside the module, without faults and with planted ones.
+test_beside() {
+    rustc --edition 2021 -O -D warnings -L native=$to/lib -o $built/beside tests/beside/main.rs
+    $built/beside --list target/bin/list
+    $built/beside --list target/bin/list --faults
+}
+
 mkdir -p $built
 say "installing the module to $to"
 install_module
@@ -125,9 +133,15 @@ for cxx in ${CXX:-g++ clang++}; do
     test_cxx "$cxx"
     tested="$tested $cxx"
 done
-if there rustc; then
+if [ -n "${WITHOUT_RUST:-}" ]; then
+    say "the calls from Rust and the second implementation are left out, as WITHOUT_RUST is set"
+else
+    command -v rustc >/dev/null ||
+        fail "there is no rustc, which builds the second implementation (WITHOUT_RUST=1 leaves it out)"
     say "the calls from Rust"
     test_rust
+    say "the module beside the second implementation, then with faults planted in that"
+    test_beside
     tested="$tested rustc"
 fi
 say "passed with$tested"

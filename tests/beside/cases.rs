@@ -11,8 +11,6 @@ use std::path::Path;
 /// Messages of a log: source, deadline and payload.
 type Log<'log> = &'log [(u8, u32, &'log [u8])];
 
-const LAST: u32 = u32::MAX;
-
 /// All cases. Those of the text need the program `list`.
 pub fn run(both: &mut Both, program: &Path) -> Result<(), Found> {
     let cases: [fn(&mut Both) -> Result<(), Found>; 10] = [
@@ -141,9 +139,9 @@ fn case_5(both: &mut Both) -> Result<(), Found> {
 
 fn case_6(both: &mut Both) -> Result<(), Found> {
     let mut panel = both.fresh(0)?;
-    hands(both, &mut panel, Call::clock(LAST - 1), &[])?;
-    let sent = hands(both, &mut panel, Call::send(b"", 1), &[(0, LAST, b"")])?;
-    is("the last deadline", deadline_of(&sent) == LAST)?;
+    hands(both, &mut panel, Call::clock(u32::MAX - 1), &[])?;
+    let sent = hands(both, &mut panel, Call::send(b"", 1), &[(0, u32::MAX, b"")])?;
+    is("the last deadline", deadline_of(&sent) == u32::MAX)?;
     refuses(both, &mut panel, Call::send(b"", 1), 24)
 }
 

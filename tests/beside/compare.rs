@@ -9,7 +9,7 @@ use crate::random::Random;
 use crate::room::Room;
 use crate::same::{all_zero, same_number, same_records, unchanged, untouched};
 use crate::script::{Script, Start};
-use crate::second::{self, Answer, LOG_RECORD};
+use crate::second::{self, Answer};
 use crate::side::{call_second, Found, Side};
 
 /// A panel in both implementations, and what was done with it.
@@ -26,12 +26,8 @@ pub struct Both {
     random: Random,
     pub counts: Counts,
     before: Box<Record>,
-    input: Room,
-    output: Room,
-    frame: Room,
-    given_input: Room,
-    second_output: Room,
-    second_frame: Room,
+    room: Room,
+    second_room: Room,
 }
 
 impl Both {
@@ -41,12 +37,8 @@ impl Both {
             random,
             counts: Counts::default(),
             before,
-            input: Room::default(),
-            output: Room::default(),
-            frame: Room::default(),
-            given_input: Room::default(),
-            second_output: Room::default(),
-            second_frame: Room::default(),
+            room: Room::default(),
+            second_room: Room::default(),
         }
     }
 
@@ -68,34 +60,13 @@ impl Both {
         }
     }
 
-    /// Makes the call on the module, in the rooms.
+    /// Makes the call on the module.
     fn call_module(&mut self, record: &mut Record, call: &Call) -> Answer {
-        let (input, output) = (self.input.lent_mut(), self.output.lent_mut());
+        let [input, output, frame] = self.room.lent();
         match call {
-            Call::Send { lifetime, .. } => {
-                record.send(input, *lifetime, output, self.frame.lent_mut())
-            }
+            Call::Send { lifetime, .. } => record.send(input, *lifetime, output, frame),
             Call::Receive { .. } => record.receive(input, output),
             Call::Clock { reading, .. } => record.clock(*reading, output),
-        }
-    }
-
-    /// Compares what a call left in the buffers.
-    fn same_buffers(&self) -> Result<(), String> {
-        if let Some((place, module, second)) = self.output.difference(&self.second_output) {
-            let record = place.div_euclid(LOG_RECORD as isize);
-            return Err(format!(
-                "output byte {place}, log record {record}: module {module:02x}, second {second:02x}"
-            ));
-        }
-        if let Some((place, module, second)) = self.frame.difference(&self.second_frame) {
-            return Err(format!(
-                "frame buffer byte {place}: module {module:02x}, second {second:02x}"
-            ));
-        }
-        match self.input.difference(&self.given_input) {
-            None => Ok(()),
-            Some((place, ..)) => Err(format!("the module changed byte {place} of its input")),
         }
     }
 
@@ -104,7 +75,9 @@ impl Both {
         same_number("number", u64::from(module.number), u64::from(second.number))?;
         same_number("count", module.count as u64, second.count as u64)?;
         same_number("length", module.length as u64, second.length as u64)?;
-        self.same_buffers()?;
+        if let Some(what) = self.room.difference(&self.second_room) {
+            return Err(what);
+        }
         if module.number != 0 {
             unchanged(&self.before, &pair.module)?;
         }
@@ -144,16 +117,11 @@ impl Side for Both {
     }
 
     fn call(&mut self, pair: &mut Pair, call: &Call) -> Result<Answer, Found> {
-        self.input.lend_bytes(call.input(), &mut self.random);
-        self.given_input.lend_as(&self.input);
-        self.output.lend(call.output(), &mut self.random);
-        self.second_output.lend_as(&self.output);
-        self.frame.lend(call.frame(), &mut self.random);
-        self.second_frame.lend_as(&self.frame);
+        self.room.lend(call, &mut self.random);
+        self.second_room.lend_as(&self.room);
         self.before.clone_from(&pair.module);
         let by_module = self.call_module(&mut pair.module, call);
-        let (output, frame) = (self.second_output.lent_mut(), self.second_frame.lent_mut());
-        let by_second = call_second(&mut pair.second, call, output, frame);
+        let by_second = call_second(&mut pair.second, call, &mut self.second_room);
         self.counts.call(call, by_module, pair.module.count);
         pair.script.calls.push(call.clone());
         self.compare(pair, by_module, by_second).map_err(|what| {
@@ -164,11 +132,11 @@ impl Side for Both {
     }
 
     fn output(&self) -> &[u8] {
-        self.output.lent()
+        self.room.output()
     }
 
     fn frame(&self) -> &[u8] {
-        self.frame.lent()
+        self.room.frame()
     }
 
     fn script(&self, pair: &Pair) -> Option<Script> {

@@ -55,17 +55,11 @@ pub trait Side {
 }
 
 /// Makes a call on the second implementation.
-pub fn call_second(
-    panel: &mut second::Panel,
-    call: &Call,
-    output: &mut [u8],
-    frame: &mut [u8],
-) -> Answer {
+pub fn call_second(panel: &mut second::Panel, call: &Call, room: &mut Room) -> Answer {
+    let [input, output, frame] = room.lent();
     match call {
-        Call::Send {
-            payload, lifetime, ..
-        } => panel.send(payload, *lifetime, output, frame),
-        Call::Receive { bytes, .. } => panel.receive(bytes, output),
+        Call::Send { lifetime, .. } => panel.send(input, *lifetime, output, frame),
+        Call::Receive { .. } => panel.receive(input, output),
         Call::Clock { reading, .. } => panel.clock(*reading, output),
     }
 }
@@ -73,8 +67,7 @@ pub fn call_second(
 /// The second implementation alone.
 pub struct Alone {
     random: Random,
-    output: Room,
-    frame: Room,
+    room: Room,
     pub calls: u64,
 }
 
@@ -82,8 +75,7 @@ impl Alone {
     pub fn new(random: Random) -> Alone {
         Alone {
             random,
-            output: Room::default(),
-            frame: Room::default(),
+            room: Room::default(),
             calls: 0,
         }
     }
@@ -97,19 +89,17 @@ impl Side for Alone {
     }
 
     fn call(&mut self, panel: &mut second::Panel, call: &Call) -> Result<Answer, Found> {
-        self.output.lend(call.output(), &mut self.random);
-        self.frame.lend(call.frame(), &mut self.random);
-        let (output, frame) = (self.output.lent_mut(), self.frame.lent_mut());
+        self.room.lend(call, &mut self.random);
         self.calls += 1;
-        Ok(call_second(panel, call, output, frame))
+        Ok(call_second(panel, call, &mut self.room))
     }
 
     fn output(&self) -> &[u8] {
-        self.output.lent()
+        self.room.output()
     }
 
     fn frame(&self) -> &[u8] {
-        self.frame.lent()
+        self.room.frame()
     }
 
     fn script(&self, _: &second::Panel) -> Option<Script> {

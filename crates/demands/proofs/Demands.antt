@@ -22,18 +22,18 @@ use Rattle.panel.proofs.panel_fresh.Statement as fresh
 use Rattle.panel.proofs.panel_fresh.Met as fresh-theorem
 use Rattle.panel.proofs.panel_fresh.Kinds as fresh-kinds
 use Rattle.panel.proofs.panel_fresh.Reads as fresh-reads
-use Rattle.panel.proofs.panel_send.Statement as send
-use Rattle.panel.proofs.panel_send.Met as send-theorem
-use Rattle.panel.proofs.panel_send.Kinds as send-kinds
-use Rattle.panel.proofs.panel_send.Reads as send-reads
-use Rattle.panel.proofs.panel_receive.Statement as receive
-use Rattle.panel.proofs.panel_receive.Met as receive-theorem
-use Rattle.panel.proofs.panel_receive.Kinds as receive-kinds
-use Rattle.panel.proofs.panel_receive.Reads as receive-reads
-use Rattle.panel.proofs.panel_clock.Statement as clock
-use Rattle.panel.proofs.panel_clock.Met as clock-theorem
-use Rattle.panel.proofs.panel_clock.Kinds as clock-kinds
-use Rattle.panel.proofs.panel_clock.Reads as clock-reads
+use Rattle.by_value.proofs.panel_send.Statement as send
+use Rattle.by_value.proofs.panel_send.Met as send-theorem
+use Rattle.by_value.proofs.panel_send.Kinds as send-kinds
+use Rattle.by_value.proofs.panel_send.Reads as send-reads
+use Rattle.by_value.proofs.panel_receive.Statement as receive
+use Rattle.by_value.proofs.panel_receive.Met as receive-theorem
+use Rattle.by_value.proofs.panel_receive.Kinds as receive-kinds
+use Rattle.by_value.proofs.panel_receive.Reads as receive-reads
+use Rattle.by_value.proofs.panel_clock.Statement as clock
+use Rattle.by_value.proofs.panel_clock.Met as clock-theorem
+use Rattle.by_value.proofs.panel_clock.Kinds as clock-kinds
+use Rattle.by_value.proofs.panel_clock.Reads as clock-reads
 use Rattle.exports.proofs.panel_fresh_parts.Statement as fresh-parts
 use Rattle.exports.proofs.panel_fresh_parts.Met as fresh-parts-theorem
 use Rattle.exports.proofs.panel_fresh_parts.Kinds as fresh-parts-kinds
@@ -63,7 +63,7 @@ pub record Demands (M : Type 1) : Type 2 where
   pub panel-send-parts : send-parts.statement M
   pub panel-receive-parts : receive-parts.statement M
   pub panel-clock-parts : clock-parts.statement M
-  -- The same by value, for callers in Rattle (crates/panel/src/lib.rt): a refusal gives back the very struct.
+  -- The same by value, for callers in Rattle (crates/panel/src/lib.rt, crates/by_value/src): a refusal gives back the very struct.
   pub panel-fresh : fresh.statement M
   pub panel-send : send.statement M
   pub panel-receive : receive.statement M

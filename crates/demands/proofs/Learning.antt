@@ -15,16 +15,16 @@ use Rattle.panel.proofs.panel_fresh.Kinds as fresh-kinds
 use Rattle.panel.proofs.panel_fresh.Reads as fresh-reads
 use Rattle.exports.proofs.panel_fresh_parts.Kinds as fresh-parts-kinds
 use Rattle.exports.proofs.panel_fresh_parts.Reads as fresh-parts-reads
-use Rattle.panel.proofs.panel_send.Kinds as send-kinds
-use Rattle.panel.proofs.panel_send.Reads as send-reads
+use Rattle.by_value.proofs.panel_send.Kinds as send-kinds
+use Rattle.by_value.proofs.panel_send.Reads as send-reads
 use Rattle.exports.proofs.panel_send_parts.Kinds as send-parts-kinds
 use Rattle.exports.proofs.panel_send_parts.Reads as send-parts-reads
-use Rattle.panel.proofs.panel_receive.Kinds as receive-kinds
-use Rattle.panel.proofs.panel_receive.Reads as receive-reads
+use Rattle.by_value.proofs.panel_receive.Kinds as receive-kinds
+use Rattle.by_value.proofs.panel_receive.Reads as receive-reads
 use Rattle.exports.proofs.panel_receive_parts.Kinds as receive-parts-kinds
 use Rattle.exports.proofs.panel_receive_parts.Reads as receive-parts-reads
-use Rattle.panel.proofs.panel_clock.Kinds as clock-kinds
-use Rattle.panel.proofs.panel_clock.Reads as clock-reads
+use Rattle.by_value.proofs.panel_clock.Kinds as clock-kinds
+use Rattle.by_value.proofs.panel_clock.Reads as clock-reads
 use Rattle.exports.proofs.panel_clock_parts.Kinds as clock-parts-kinds
 use Rattle.exports.proofs.panel_clock_parts.Reads as clock-parts-reads
 use Rattle.demands.specs.Runs.{Run, Kept}

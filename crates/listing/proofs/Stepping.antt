@@ -11,8 +11,9 @@ use Rattle.bundle.proofs.Steps.{step-found}
 use Rattle.rules.specs.Sizes.{outputLength}
 use Rattle.rules.specs.Results.{Result, receive, Promised}
 use Rattle.rules.proofs.Theorems.{count-33}
-use Rattle.panel.specs.declared.Received.{Received}
-use Rattle.panel.specs.Record.{recordOf, receivedResult}
+use Rattle.by_value.specs.declared.Received.{Received}
+use Rattle.panel.specs.Record.{recordOf}
+use Rattle.by_value.specs.Answers.{receivedResult}
 use Rattle.text.specs.Text.{ascii}
 use Rattle.text.specs.Lines.{frameLine, handLines}
 use Rattle.text.specs.Put.{Put}

@@ -3,9 +3,9 @@
 use bundle::Step;
 use bundle::part_at;
 use bundle::step_at;
+use by_value::panel_receive;
 use panel::Panel;
 use panel::panel_fresh;
-use panel::panel_receive;
 use text::put_frame_line;
 use text::put_hand_lines;
 use text::put_words;

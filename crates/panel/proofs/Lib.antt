@@ -1,2 +1,2 @@
--- Laws of the calls by value over those in place.
-pub mod ByValue
+-- A law of the struct.
+pub mod GivenBack

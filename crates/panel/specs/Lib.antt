@@ -1,2 +1,2 @@
--- The record that the struct holds, and what the calls' answers say.
+-- The record that the struct holds.
 pub mod Record

@@ -1,14 +1,6 @@
-// The panel: its record as a struct, and the calls fresh, send, receive and clock by value, for callers
-// in Rattle, thin over those in place. No public function asks anything of its caller; what each
-// promises is that of document 01, for every argument.
-mod clock;
-mod receive;
-mod send;
-
-pub use clock::panel_clock;
+// The panel's record as a struct, and fresh by value, thin over fresh in place. `panel_fresh` asks
+// nothing of its caller.
 use exports::panel_fresh_parts;
-pub use receive::panel_receive;
-pub use send::panel_send;
 ghost use mathlib.Core.Path.{_≡_};
 ghost use Rattle.rules.specs.Refusals.{freshNumber, freshRecord};
 ghost use Rattle.panel.specs.Record.{recordOf};
@@ -26,33 +18,10 @@ pub struct Panel {
     pub slots: [u8; 9888],
 }
 
-// The answers: number is 0, or that of a refusal, with every count and length 0 and the record as it
-// was given. count is that of the log records in the output, length that of the frame in its buffer.
+// number is 0, or 11.
 #[repr(C)]
 pub struct Fresh {
     pub panel: Panel,
-    pub number: u8,
-}
-
-#[repr(C)]
-pub struct Sent {
-    pub panel: Panel,
-    pub count: usize,
-    pub length: usize,
-    pub number: u8,
-}
-
-#[repr(C)]
-pub struct Received {
-    pub panel: Panel,
-    pub count: usize,
-    pub number: u8,
-}
-
-#[repr(C)]
-pub struct Clocked {
-    pub panel: Panel,
-    pub count: usize,
     pub number: u8,
 }
 

@@ -58,7 +58,7 @@ fn fresh(own: u8) -> Panel {
 fn send(p: Panel, payload: &[u8], lifetime: u16) -> Sender {
     let mut output = [0u8; 1254];
     let mut buffer = [0u8; 307];
-    let answer = panel::panel_send(p, payload, lifetime, &mut output, &mut buffer);
+    let answer = by_value::panel_send(p, payload, lifetime, &mut output, &mut buffer);
     let panel = answer.panel;
     let length = answer.length;
     print_answer(b"send at panel ", panel, answer.number, answer.count);
@@ -74,7 +74,7 @@ fn send(p: Panel, payload: &[u8], lifetime: u16) -> Sender {
 
 fn receive(p: Panel, frame: &[u8]) -> Panel {
     let mut output = [0u8; 1254];
-    let answer = panel::panel_receive(p, frame, &mut output);
+    let answer = by_value::panel_receive(p, frame, &mut output);
     let panel = answer.panel;
     print_answer(b"receive at panel ", panel, answer.number, answer.count);
     print(b"\n");
@@ -83,7 +83,7 @@ fn receive(p: Panel, frame: &[u8]) -> Panel {
 
 fn clock(p: Panel, time: u32) -> Panel {
     let mut output = [0u8; 1254];
-    let answer = panel::panel_clock(p, time, &mut output);
+    let answer = by_value::panel_clock(p, time, &mut output);
     let panel = answer.panel;
     print_answer(b"clock at panel ", panel, answer.number, answer.count);
     print_item(b", time ", panel.time as u64);

@@ -1,10 +1,11 @@
 // Send by value, thin over that in place: it copies marks and barrier, and lends the slots of the
 // struct that it was given.
-use crate::Panel;
 use crate::Sent;
+use panel::Panel;
 use sending::send_in_place;
 ghost use Rattle.rules.specs.Results.{Promised, send};
-ghost use Rattle.panel.specs.Record.{recordOf, sentResult, GivenBack};
+ghost use Rattle.panel.specs.Record.{recordOf, GivenBack};
+ghost use Rattle.by_value.specs.Answers.{sentResult};
 
 // A payload is sent with a lifetime: its frame stands in the buffer, and the log records in the output.
 pub fn panel_send<'a, 'b, 'c>(

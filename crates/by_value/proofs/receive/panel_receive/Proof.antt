@@ -1,10 +1,11 @@
--- `panel::receive::panel_receive` meets its contract: the call in place keeps the promise. Assumes nothing.
+-- `by_value::receive::panel_receive` meets its contract: the call in place keeps the promise. Assumes nothing.
 use mathlib.Core.Path.{refl}
 use borrow.Author.Needs.{needs}
 use Rattle.rules.specs.Results.{receive}
-use Rattle.panel.proofs.ByValue.{promised-unframed, given-back}
-use Rattle.panel.proofs.receive.panel_receive.Statement.{statement}
-use Rattle.panel.proofs.receive.panel_receive.Tie as tie
+use Rattle.panel.proofs.GivenBack.{given-back}
+use Rattle.by_value.proofs.Unframed.{promised-unframed}
+use Rattle.by_value.proofs.receive.panel_receive.Statement.{statement}
+use Rattle.by_value.proofs.receive.panel_receive.Tie as tie
 
 receive-in-place-requires : tie.Need-receive-in-place-requires
 receive-in-place-requires c κs = search needs

@@ -1,10 +1,11 @@
--- `panel::clock::panel_clock` meets its contract: the call in place keeps the promise. Assumes nothing.
+-- `by_value::clock::panel_clock` meets its contract: the call in place keeps the promise. Assumes nothing.
 use mathlib.Core.Path.{refl}
 use borrow.Author.Needs.{needs}
 use Rattle.rules.specs.Results.{clock}
-use Rattle.panel.proofs.ByValue.{promised-unframed, given-back}
-use Rattle.panel.proofs.clock.panel_clock.Statement.{statement}
-use Rattle.panel.proofs.clock.panel_clock.Tie as tie
+use Rattle.panel.proofs.GivenBack.{given-back}
+use Rattle.by_value.proofs.Unframed.{promised-unframed}
+use Rattle.by_value.proofs.clock.panel_clock.Statement.{statement}
+use Rattle.by_value.proofs.clock.panel_clock.Tie as tie
 
 clock-in-place-requires : tie.Need-clock-in-place-requires
 clock-in-place-requires c κs = search needs

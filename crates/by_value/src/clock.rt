@@ -1,10 +1,11 @@
 // Clock by value, thin over that in place: it copies marks and barrier, and lends the slots of the
 // struct that it was given.
 use crate::Clocked;
-use crate::Panel;
 use clocking::clock_in_place;
+use panel::Panel;
 ghost use Rattle.rules.specs.Results.{Promised, clock};
-ghost use Rattle.panel.specs.Record.{recordOf, clockedResult, GivenBack};
+ghost use Rattle.panel.specs.Record.{recordOf, GivenBack};
+ghost use Rattle.by_value.specs.Answers.{clockedResult};
 
 // The clock shows a time: the log records stand in the output.
 pub fn panel_clock(mut p: Panel, time: u32, output: &mut [u8]) -> Clocked

@@ -1,10 +1,11 @@
 // Receive by value, thin over that in place: it copies marks and barrier, and lends the slots of the
 // struct that it was given.
-use crate::Panel;
 use crate::Received;
+use panel::Panel;
 use receiving::receive_in_place;
 ghost use Rattle.rules.specs.Results.{Promised, receive};
-ghost use Rattle.panel.specs.Record.{recordOf, receivedResult, GivenBack};
+ghost use Rattle.panel.specs.Record.{recordOf, GivenBack};
+ghost use Rattle.by_value.specs.Answers.{receivedResult};
 
 // A frame is received: the log records stand in the output.
 pub fn panel_receive<'a, 'b>(mut p: Panel, frame: &'a [u8], output: &'b mut [u8]) -> Received

@@ -1,0 +1,27 @@
+-- The answers of the calls by value: what a call has answered, given back, and left in the buffers lent to it.
+use Prim.Native.Nat.{ℕ}
+use mathlib.Core.List.{List, []}
+use Rattle.rules.specs.Results.{Result}
+use Rattle.panel.specs.Record.{recordOf}
+use Rattle.by_value.specs.declared.Sent.{Sent}
+use Rattle.by_value.specs.declared.Received.{Received}
+use Rattle.by_value.specs.declared.Clocked.{Clocked}
+
+abbrev pub sentResult : Sent → List ℕ → List ℕ → Result
+sentResult answer output buffer =
+    record {
+      number = answer .number;
+      panel = recordOf (answer .panel);
+      count = answer .count;
+      output = output;
+      frameLength = answer .length;
+      buffer = buffer;
+    }
+
+abbrev pub receivedResult : Received → List ℕ → Result
+receivedResult answer output =
+    record { number = answer .number; panel = recordOf (answer .panel); count = answer .count; output = output; frameLength = 0; buffer = [] }
+
+abbrev pub clockedResult : Clocked → List ℕ → Result
+clockedResult answer output =
+    record { number = answer .number; panel = recordOf (answer .panel); count = answer .count; output = output; frameLength = 0; buffer = [] }

@@ -1,0 +1,2 @@
+-- The answers of the calls by value.
+pub mod Answers

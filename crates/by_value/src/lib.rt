@@ -1,0 +1,34 @@
+// Send, receive and clock by value, for callers in Rattle, thin over those in place. No public
+// function asks anything of its caller; what each promises is that of document 01, for every argument.
+mod clock;
+mod receive;
+mod send;
+
+pub use clock::panel_clock;
+use panel::Panel;
+pub use receive::panel_receive;
+pub use send::panel_send;
+
+// The answers: number is 0, or that of a refusal, with every count and length 0 and the record as it
+// was given. count is that of the log records in the output, length that of the frame in its buffer.
+#[repr(C)]
+pub struct Sent {
+    pub panel: Panel,
+    pub count: usize,
+    pub length: usize,
+    pub number: u8,
+}
+
+#[repr(C)]
+pub struct Received {
+    pub panel: Panel,
+    pub count: usize,
+    pub number: u8,
+}
+
+#[repr(C)]
+pub struct Clocked {
+    pub panel: Panel,
+    pub count: usize,
+    pub number: u8,
+}

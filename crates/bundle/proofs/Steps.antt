@@ -1,16 +1,17 @@
--- The steps of a bundle, one law for each case, and where a frame found lies.
-use mathlib.Core.Path.{_≡_, refl}
+-- The steps of a bundle, one law for each case; where a frame found lies; and what the step says as C has it.
+use mathlib.Core.Path.{_≡_, refl, sym, subst}
 use mathlib.Core.Bool.{Bool, true, false, cond}
 use mathlib.Core.List.{List}
 use Prim.Native.Nat.{ℕ, _+_, _≤_, _<_}
 use native.Mathlib.Omega.{arith}
 use lib.Dec.{ltb, eqb}
-use lib.ListN.{length}
+use lib.ListN.{length, take, drop}
 use borrow.Author.Tests.{ltb-false, lt-ltb, le-ltb, eq-eqb, ne-eqb}
 use Rattle.numbers.specs.Numbers.{numberAt}
 use Rattle.bundle.specs.declared.Step.{Step}
 use Rattle.bundle.specs.declared.Step.the-variants.{Frame, End, Broken}
-use Rattle.bundle.specs.Bundle.{stepAt}
+use Rattle.bundle.specs.declared.BundleStep.{BundleStep}
+use Rattle.bundle.specs.Bundle.{stepAt, partOf, placeAfter, startOf, answerOf}
 
 module _ (bundle : List ℕ) (place : ℕ) where
   pub step-past : length bundle < place → stepAt bundle place ≡ Broken
@@ -31,21 +32,22 @@ module _ (bundle : List ℕ) (place : ℕ) where
       let left : length bundle ≡ place → ⊥ = λ e. omega arith in
       simp (le-ltb _ _ within, ne-eqb _ _ left, lt-ltb _ _ short)
 
-  -- too few bytes for the frame
-  pub step-short-frame : place + 2 ≤ length bundle → length bundle < place + 2 + numberAt bundle place 2 → stepAt bundle place ≡ Broken
-  unfolding stepAt
-  step-short-frame two short =
-      let within : place ≤ length bundle = omega arith in
-      let left : length bundle ≡ place → ⊥ = λ e. omega arith in
-      simp (le-ltb _ _ within, ne-eqb _ _ left, le-ltb _ _ two, lt-ltb _ _ short)
+  -- a length is there
+  module _ (size : ℕ) (is : size ≡ numberAt bundle place 2) (two : place + 2 ≤ length bundle) where
+    -- too few bytes for the frame
+    pub step-short-frame : length bundle < place + 2 + size → stepAt bundle place ≡ Broken
+    unfolding stepAt
+    step-short-frame short =
+        let within : place ≤ length bundle = omega arith in
+        let left : length bundle ≡ place → ⊥ = λ e. omega arith in
+        simp (le-ltb _ _ within, ne-eqb _ _ left, le-ltb _ _ two, ← is, lt-ltb _ _ short)
 
-  pub step-frame : place + 2 ≤ length bundle → place + 2 + numberAt bundle place 2 ≤ length bundle
-      → stepAt bundle place ≡ Frame (place + 2) (numberAt bundle place 2) (place + 2 + numberAt bundle place 2)
-  unfolding stepAt
-  step-frame two fits =
-      let within : place ≤ length bundle = omega arith in
-      let left : length bundle ≡ place → ⊥ = λ e. omega arith in
-      simp (le-ltb _ _ within, ne-eqb _ _ left, le-ltb _ _ two, le-ltb _ _ fits)
+    pub step-frame : place + 2 + size ≤ length bundle → stepAt bundle place ≡ Frame (place + 2) size (place + 2 + size)
+    unfolding stepAt
+    step-frame fits =
+        let within : place ≤ length bundle = omega arith in
+        let left : length bundle ≡ place → ⊥ = λ e. omega arith in
+        simp (le-ltb _ _ within, ne-eqb _ _ left, le-ltb _ _ two, ← is, le-ltb _ _ fits)
 
 -- ---- a frame found
 
@@ -76,3 +78,24 @@ step-found bundle place s l n e =
     let en : place + 2 + numberAt bundle place 2 ≡ n = cc in
     let fits : place + 2 + numberAt bundle place 2 ≤ length bundle = ltb-false (length bundle) (place + 2 + numberAt bundle place 2) (t4 .0) in
     record { begins = omega arith; ends = omega arith; within = omega arith }
+
+-- ---- the step as C has it
+
+-- its fields give the part, within the bundle, and the place after it
+pub record Answered (bundle : List ℕ) (place : ℕ) (step : Step) (answer : BundleStep) : Type 0 where
+  pub starts : answer .start ≡ startOf step
+  pub part : take (answer .length) (drop (answer .start) bundle) ≡ partOf bundle step
+  pub within : answer .start + answer .length ≤ length bundle
+  pub after : answer .next ≡ placeAfter step place
+
+answer-of : (bundle : List ℕ) (place : ℕ) (step : Step) → stepAt bundle place ≡ step → Answered bundle place step (answerOf step place)
+answer-of bundle place (Frame start size next) e =
+    let found = step-found bundle place start size next e in
+    record { starts = refl; part = refl; within = omega (arith, found .ends, found .within); after = refl }
+answer-of bundle place End e = record { starts = refl; part = refl; within = omega arith; after = refl }
+answer-of bundle place Broken e = record { starts = refl; part = refl; within = omega arith; after = refl }
+
+pub answered : (bundle : List ℕ) (place : ℕ) (answer : BundleStep) → answer ≡ answerOf (stepAt bundle place) place
+    → Answered bundle place (stepAt bundle place) answer
+answered bundle place answer e =
+    subst (λ (a : BundleStep). Answered bundle place (stepAt bundle place) a) (sym e) (answer-of bundle place (stepAt bundle place) refl)

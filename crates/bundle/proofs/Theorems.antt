@@ -32,8 +32,7 @@ module _ (before frame after : List ℕ) (short : length frame < 256 ^ 2) where
   frame-step =
       let n = size in
       let r = room in
-      step-frame (before ++ behind) (length before) (omega arith) (omega arith)
-      ∙ ap (λ (size : ℕ). Frame (length before + 2) size (length before + 2 + size)) n
+      step-frame (before ++ behind) (length before) (length frame) (sym n) (omega arith) (omega arith)
 
   -- and the part is the frame
   pub frame-part : frameAt (before ++ behind) (length before) ≡ frame

@@ -92,30 +92,16 @@ pub extern "C" fn panel_bundle_step(bundle: &[u8], place: usize) -> BundleStep
 pub fn part_at(bundle: &[u8], place: usize) -> &[u8]
     ensures { λ r. ⌜ FramePart (bundle .entry) place r ⌝ }
 {
-    match step_at(bundle, place) {
-        Step::Frame {
-            start,
-            length,
-            next: _,
-        } => &bundle[start..start + length],
-        Step::End => &bundle[0..0],
-        Step::Broken => &bundle[0..0],
-    }
+    let step = panel_bundle_step(bundle, place);
+    let start = step.start;
+    &bundle[start..start + step.length]
 }
 
 // The place behind the frame at a place; with end and broken it stays.
 pub fn place_after(bundle: &[u8], place: usize) -> usize
     ensures { λ r. ⌜ r ≡ placeAfter (stepAt (now (bundle .entry)) place) place ⌝ }
 {
-    match step_at(bundle, place) {
-        Step::Frame {
-            start: _,
-            length: _,
-            next,
-        } => next,
-        Step::End => place,
-        Step::Broken => place,
-    }
+    panel_bundle_step(bundle, place).next
 }
 
 // The reading of the frame at a place: the part in the middle of the bundle is passed to the frame

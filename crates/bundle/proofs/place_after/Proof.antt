@@ -1,37 +1,14 @@
--- `bundle::place_after` meets its contract: in each arm the step says which place is given. Assumes nothing.
-use mathlib.Core.Path.{refl, sym, _∙_}
+-- `bundle::place_after` meets its contract: the place is a field of the step as C has it. Assumes nothing.
 use borrow.Author.Needs.{needs}
+use Rattle.bundle.proofs.Steps.{answered}
 use Rattle.bundle.proofs.place_after.Statement.{statement}
 use Rattle.bundle.proofs.place_after.Tie as tie
 
-step-at-requires : tie.Need-step-at-requires
-step-at-requires c κs = search needs
-
-enum-known-next : tie.Need-enum-known-next
-enum-known-next c = search needs
-
-enum-told : tie.Need-enum-told
-enum-told c = search needs
-
-enum-told-2 : tie.Need-enum-told-2
-enum-told-2 c = search needs
+panel-bundle-step-requires : tie.Need-panel-bundle-step-requires
+panel-bundle-step-requires c κs = search needs
 
 returns : tie.Need-returns
-returns c =
-    let step = c .before .before .before .step-at .ensures in
-    rw (sym step ∙ c .before .next .given .1) refl
-
-returns-2 : tie.Need-returns-2
-returns-2 c =
-    let step = c .before .before .step-at .ensures in
-    rw (sym step ∙ c .enum-told .given .1) refl
-
-returns-3 : tie.Need-returns-3
-returns-3 c =
-    let step = c .before .before .step-at .ensures in
-    rw (sym step ∙ c .enum-told2 .given .1) refl
+returns c = answered _ _ _ (c .panel-bundle-step .ensures) .after
 
 pub place-after-spec : {M : Type 1} → statement M
-place-after-spec =
-    tie.close
-    (tie.spec step-at-requires enum-known-next enum-told enum-told-2 returns returns-2 returns-3)
+place-after-spec = tie.close (tie.spec panel-bundle-step-requires returns)

@@ -1,9 +1,7 @@
 -- `bundle::step_at` meets its contract: at each return the tests that led there say which law of `Steps` holds. Assumes nothing.
-use mathlib.Core.Path.{sym, ap, _∙_}
-use Prim.Native.Nat.{ℕ, _+_}
+use mathlib.Core.Path.{sym}
 use native.Mathlib.Omega.{arith}
 use borrow.Author.Needs.{needs}
-use Rattle.bundle.specs.declared.Step.the-variants.{Frame}
 use Rattle.bundle.proofs.Steps.{step-past, step-end, step-short-length, step-short-frame, step-frame}
 use Rattle.bundle.proofs.step_at.Statement.{statement}
 use Rattle.bundle.proofs.step_at.Tie as tie
@@ -27,16 +25,13 @@ sub-if4 : tie.Need-sub-if4
 sub-if4 c = search needs
 
 returns-4 : tie.Need-returns-4
-returns-4 c = sym (step-short-frame _ _ (omega arith) (omega (arith, c .before .number-at .ensures .0)))
+returns-4 c = sym (step-short-frame _ _ _ (c .before .number-at .ensures .0) (omega arith) (omega arith))
 
 add-t7 : tie.Need-add-t7
 add-t7 c = search needs
 
 returns-5 : tie.Need-returns-5
-returns-5 c =
-    let a = c .before .before .before .before .before .before .args in
-    let n = c .before .number-at .ensures .0 in
-    ap (λ (size : ℕ). Frame (a .place + 2) size (a .place + 2 + size)) n ∙ sym (step-frame _ _ (omega arith) (omega (arith, n)))
+returns-5 c = sym (step-frame _ _ _ (c .before .number-at .ensures .0) (omega arith) (omega arith))
 
 pub step-at-spec : {M : Type 1} → statement M
 step-at-spec =

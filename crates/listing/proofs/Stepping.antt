@@ -15,9 +15,9 @@ use Rattle.by_value.specs.declared.Received.{Received}
 use Rattle.panel.specs.Record.{recordOf}
 use Rattle.by_value.specs.Answers.{receivedResult}
 use Rattle.text.specs.Text.{ascii}
-use Rattle.text.specs.Lines.{frameLine, handLines}
 use Rattle.text.specs.Put.{Put}
 use Rattle.text.proofs.Puts.{put-put}
+use Rattle.lines.specs.Lines.{frameLine, handLines}
 use Rattle.listing.specs.declared.Listing.{Listing}
 use Rattle.listing.specs.Listing.{State, linesOf, linesAt, onward, stateAfter, goesOn, received}
 use Rattle.listing.specs.Step.{stateOf, Standing, Stepped, Ended}

@@ -14,7 +14,7 @@ use Rattle.rules.specs.BenchCases.{frame1, frame2}
 use Rattle.rules.proofs.BenchCases.{callsOpened}
 use Rattle.log_records.specs.LogRecords.{logRecordAt, isWhole, fieldsIn, payloadIn}
 use Rattle.text.specs.Text.{ascii, digit, decimalIn, hexadecimal}
-use Rattle.text.specs.Lines.{item, outcome, frameLine, payloadText, handLine, handLines}
+use Rattle.lines.specs.Lines.{item, outcome, frameLine, payloadText, handLine, handLines}
 use Rattle.listing.specs.Listing.{State, received, linesAt, onward, stateAfter, goesOn, linesFrom, listing}
 
 -- whoever unfolds this unfolds all that a listing is computed by

@@ -11,7 +11,7 @@ use Rattle.rules.specs.Sizes.{outputLength}
 use Rattle.rules.specs.Panel.{Panel, fresh}
 use Rattle.rules.specs.Results.{Result, receive, defined}
 use Rattle.text.specs.Text.{ascii}
-use Rattle.text.specs.Lines.{frameLine, handLines}
+use Rattle.lines.specs.Lines.{frameLine, handLines}
 
 -- where the listing stands: the panel's record, the place in the bundle, and the frames so far
 pub record State : Type 0 where

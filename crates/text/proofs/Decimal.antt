@@ -5,11 +5,11 @@ use mathlib.Core.List.{List, [], _∷_, _++_}
 use Prim.Native.Nat.{ℕ, zero, suc, _+_, _*_, _/_, _%_, _^_, _≤_, _<_}
 use native.Mathlib.Omega.{arith}
 use lib.Dec.{ltb}
-use lib.ListN.{length, length-append}
+use lib.ListN.{length, set, length-append}
 use borrow.Author.Tests.{lt-ltb, le-ltb, ltb-true, ltb-false}
 use Rattle.text.specs.Text.{digit, decimalIn, decimal}
 use Rattle.text.specs.Put.{Put}
-use Rattle.text.proofs.Puts.{put-put}
+use Rattle.text.proofs.Puts.{put-set, put-next}
 
 -- below 10 one digit will do
 pub decimalIn-small : (most n : ℕ) → n < 10 → decimalIn (suc most) n ≡ digit n ∷ []
@@ -61,10 +61,16 @@ length-decimalIn (suc most) n = go (ltb n 10) (length-decimalIn most (n / 10))
     go true tenth = omega arith
     go false tenth = rw length-append (omega arith)
 
+-- the only digit of a number below 10 is put
+pub put-only-digit : {text : List ℕ} {at : ℕ} (n only : ℕ) → n < 10 → at < length text → only ≡ digit n
+    → Put text at (decimal n) (set text at only) (at + 1)
+put-only-digit n only small room e = rw (decimal-small n small, ← e) (put-set _ _ only room)
+
 -- the digits of a number's tenth part are put, then its last digit
-pub put-last-digit : {text others last : List ℕ} {at behind end : ℕ} (n : ℕ) → 10 ≤ n → n < 2 ^ 64 → at ≤ length text
-    → Put text at (decimal (n / 10)) others behind → Put others behind (digit (n % 10) ∷ []) last end → Put text at (decimal n) last end
-put-last-digit n large fits within first then = rw (decimal-more n large fits) (put-put within first then)
+pub put-last-digit : {text others : List ℕ} {at behind : ℕ} (n last : ℕ) → 10 ≤ n → n < 2 ^ 64 → behind < length text → last ≡ digit (n % 10)
+    → Put text at (decimal (n / 10)) others behind
+    → Put text at (decimal n) (set others behind last) (behind + 1)
+put-last-digit n last large fits room e first = rw (decimal-more n large fits, ← e) (put-next last room first)
 
 -- which leaves room for the last one
 pub tenth-short : (n : ℕ) → 10 ≤ n → n < 2 ^ 64 → length (decimal (n / 10)) < 20

@@ -40,3 +40,16 @@ put-put {buffer} {at} {text} {after} {behind} {more} {last} {end} within put nex
       kept = next .kept ∙ put .kept;
       place = rw length-append (omega (arith, put .place, next .place));
     }
+
+-- one byte more
+pub put-next : {buffer : List ℕ} {at : ℕ} {text after : List ℕ} {behind : ℕ} (byte : ℕ) → behind < length buffer → Put buffer at text after behind
+    → Put buffer at (text ++ (byte ∷ [])) (set after behind byte) (behind + 1)
+put-next {buffer} {at} {text} {after} {behind} byte room put =
+    put-put (omega (arith, put .place)) put (put-set after behind byte (omega (arith, put .kept)))
+
+-- pieces of at most so many bytes
+pub put-short : {buffer : List ℕ} {at : ℕ} {text after : List ℕ} {behind : ℕ} {more last : List ℕ} {end : ℕ} (few most : ℕ) → at ≤ length buffer
+    → Put buffer at text after behind × (behind ≤ at + few)
+    → Put after behind more last end × (end ≤ behind + most)
+    → Put buffer at (text ++ more) last end × (end ≤ at + (few + most))
+put-short few most within put next = (put-put within (put .0) (next .0), omega (arith, put .1, next .1))

@@ -3,7 +3,7 @@ use mathlib.Core.Path.{_≡_}
 use Prim.Native.Nat.{_+_, _*_, _-_, _≤_}
 use native.Mathlib.Omega.{arith}
 use borrow.Author.Needs.{needs}
-use lib.ListN.{length, take}
+use lib.ListN.{length, take, length-set}
 use lib.Seq.{take-all}
 use Rattle.text.specs.Text.{hexadecimal}
 use Rattle.text.specs.Put.{Put}
@@ -26,16 +26,23 @@ loop-holds c = (omega arith, put-nil _ _, omega arith)
 number-at-requires : tie.Need-number-at-requires Inv-loop μ-loop
 number-at-requires c κs = search needs
 
-put-digit-requires : tie.Need-put-digit-requires Inv-loop μ-loop
-put-digit-requires c κs =
-    let l = c .before .before .before .loop in
-    (omega (arith, l .inv .1 .kept, l .inv .2), omega (arith, c .before .number-at .ensures .1))
+digit-requires : tie.Need-digit-requires Inv-loop μ-loop
+digit-requires c κs = omega (arith, c .number-at .ensures .1)
 
-put-digit-requires-2 : tie.Need-put-digit-requires-2 Inv-loop μ-loop
-put-digit-requires-2 c κs =
-    let l = c .before .before .before .before .before .before .before .loop in
-    let high = c .before .before .before .put-digit .ensures in
-    (omega (arith, l .inv .1 .kept, l .inv .2, high .kept, high .place), omega arith)
+slice-write-text : tie.Need-slice-write-text Inv-loop μ-loop
+slice-write-text c = let l = c .before .before .before .loop in omega (arith, l .inv .1 .kept, l .inv .2)
+
+digit-requires-2 : tie.Need-digit-requires-2 Inv-loop μ-loop
+digit-requires-2 c κs = omega arith
+
+add-text : tie.Need-add-text Inv-loop μ-loop
+add-text c = let l = c .before .before .before .before .loop in omega (arith, l .inv .2)
+
+slice-write-text-2 : tie.Need-slice-write-text-2 Inv-loop μ-loop
+slice-write-text-2 c = let l = c .before .before .before .before .loop in rw length-set (omega (arith, l .inv .1 .kept, l .inv .2))
+
+add-behind : tie.Need-add-behind Inv-loop μ-loop
+add-behind c = let l = c .before .before .before .before .loop in omega (arith, l .inv .2)
 
 add-i : tie.Need-add-i Inv-loop μ-loop
 add-i c = search needs
@@ -45,14 +52,13 @@ loop-less c = search needs
 
 loop-again : tie.Need-loop-again Inv-loop μ-loop
 loop-again c =
-    let l = c .before .before .before .before .before .before .before .before .before .before in
-    let byte = c .before .before .before .before .before .before .before .before .number-at in
-    let high = c .before .before .before .before .before .before .put-digit .ensures in
-    let low = c .before .before .put-digit2 .ensures in
-    let a = l .before .before .before .args in (
+    let l = c .before .before .before .before in
+    let a = l .before .before .before .args in
+    let byte = c .before .before .number-at in (
       omega arith,
-      put-byte (a .bytes .now) (l .loop .i) (byte .result) (omega arith) (byte .ensures .0) (omega arith) (l .loop .inv .1) high low,
-      omega (arith, l .loop .inv .2, high .place, low .place),
+      put-byte (a .bytes .now) (l .loop .i) (byte .result) _ _ (omega arith) (byte .ensures .0) (c .before .digit .ensures) (c .digit2 .ensures)
+          (omega (arith, l .loop .inv .2)) (l .loop .inv .1),
+      omega (arith, l .loop .inv .2),
     )
 
 same-length : tie.Need-same-length Inv-loop μ-loop
@@ -73,8 +79,12 @@ put-hexadecimal-spec =
     μ-loop
     loop-holds
     number-at-requires
-    put-digit-requires
-    put-digit-requires-2
+    digit-requires
+    slice-write-text
+    digit-requires-2
+    add-text
+    slice-write-text-2
+    add-behind
     add-i
     loop-less
     loop-again

@@ -1,26 +1,24 @@
--- `text::put_payload` meets its contract. Assumes nothing.
+-- `lines::put_payload` meets its contract. Assumes nothing.
 use native.Mathlib.Omega.{arith}
 use borrow.Author.Needs.{needs}
 use Rattle.text.specs.Text.{ascii}
-use Rattle.text.proofs.Lines.{payloadText-none, payloadText-some}
-use Rattle.text.proofs.put_payload.Statement.{statement}
-use Rattle.text.proofs.put_payload.Tie as tie
+use Rattle.text.proofs.Puts.{put-set}
+use Rattle.lines.proofs.Lines.{payloadText-none, payloadText-some}
+use Rattle.lines.proofs.put_payload.Statement.{statement}
+use Rattle.lines.proofs.put_payload.Tie as tie
 
-slice-aggregate-put-words : tie.Need-slice-aggregate-put-words
-slice-aggregate-put-words c = search needs
+slice-write-text : tie.Need-slice-write-text
+slice-write-text c = search needs
 
-put-words-requires : tie.Need-put-words-requires
-put-words-requires c κs = search needs
+add-result : tie.Need-add-result
+add-result c = search needs
 
 same-length : tie.Need-same-length
 same-length c = search needs
 
 returns : tie.Need-returns
 unfolding ascii
-returns c =
-    let put = c .before .before .put-words .ensures in
-    let none = c .before .before .before .before .before .if1 .taken in
-    (rw (payloadText-none _ none) put, omega (arith, put .place))
+returns c = (rw (payloadText-none _ (c .if1 .taken)) (put-set _ _ _ (omega arith)), omega arith)
 
 put-hexadecimal-requires : tie.Need-put-hexadecimal-requires
 put-hexadecimal-requires c κs = search needs
@@ -37,8 +35,8 @@ pub put-payload-spec : {M : Type 1} → statement M
 put-payload-spec =
     tie.close
     (tie.spec
-    slice-aggregate-put-words
-    put-words-requires
+    slice-write-text
+    add-result
     same-length
     returns
     put-hexadecimal-requires

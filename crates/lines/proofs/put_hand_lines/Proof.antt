@@ -1,14 +1,14 @@
--- `text::put_hand_lines` meets its contract: after i turns the lines of the first i log records are put. Assumes nothing.
+-- `lines::put_hand_lines` meets its contract: after i turns the lines of the first i log records are put. Assumes nothing.
 use mathlib.Core.Path.{_≡_}
 use Prim.Native.Nat.{_+_, _*_, _-_, _≤_}
 use native.Mathlib.Omega.{arith}
 use borrow.Author.Needs.{needs}
-use Rattle.text.specs.Lines.{handLines}
 use Rattle.text.specs.Put.{Put}
 use Rattle.text.proofs.Puts.{put-nil}
-use Rattle.text.proofs.Lines.{put-next-line}
-use Rattle.text.proofs.put_hand_lines.Statement.{statement}
-use Rattle.text.proofs.put_hand_lines.Tie as tie
+use Rattle.lines.specs.Lines.{handLines}
+use Rattle.lines.proofs.Lines.{put-next-line}
+use Rattle.lines.proofs.put_hand_lines.Statement.{statement}
+use Rattle.lines.proofs.put_hand_lines.Tie as tie
 
 abbrev Inv-loop : tie.InvT-loop
 Inv-loop text₀ at output count behind₀ i₀ text behind i =

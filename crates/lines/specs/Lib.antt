@@ -1,0 +1,2 @@
+-- The lines that the program "list" prints.
+pub mod Lines

@@ -1,6 +1,6 @@
-// Runs the calls by value, each accepted and each refused: bench cases 1 to 3, 6 and 11 of document
-// 01, an empty frame, and a panel number above 63. It prints a line for each call; the file stdout
-// beside src/ is what it must print. (tests/ runs all bench cases, in place.)
+// Runs the calls by value, each accepted and each refused: bench cases 1, 2, 6 and 11 of document 01,
+// and a panel number above 63. It prints a line for each call; the file stdout beside src/ is what it
+// must print. (tests/ runs all bench cases, in place.)
 use panel::Panel;
 
 fn print(text: &[u8]) {
@@ -25,11 +25,11 @@ fn print_bytes(bytes: &[u8]) {
 }
 
 // The panel, the number of the answer, and the counts of log records and of waiting messages.
-fn print_answer(label: &[u8], p: Panel, number: u8, count: usize) {
-    print_item(label, p.own as u64);
+fn print_answer(label: &[u8], own: u8, number: u8, count: usize, waiting: usize) {
+    print_item(label, own as u64);
     print_item(b": ", number as u64);
     print_item(b", handed ", count as u64);
-    print_item(b", waiting ", p.count as u64);
+    print_item(b", waiting ", waiting as u64);
 }
 
 // The first bytes of a buffer, or none where there are fewer.
@@ -40,43 +40,25 @@ fn first(buffer: &[u8], length: usize) -> &[u8] {
     &buffer[0..length]
 }
 
-// A panel after a send, and the buffer and length of the frame.
-struct Sender {
-    panel: Panel,
-    buffer: [u8; 307],
-    length: usize,
-}
-
 fn fresh(own: u8) -> Panel {
     let answer = panel::panel_fresh(own);
     let p = answer.panel;
-    print_answer(b"fresh panel ", p, answer.number, 0);
+    print_answer(b"fresh panel ", p.own, answer.number, 0, p.count);
     print(b"\n");
     p
-}
-
-fn send(p: Panel, payload: &[u8], lifetime: u16) -> Sender {
-    let mut output = [0u8; 1254];
-    let mut buffer = [0u8; 307];
-    let answer = by_value::panel_send(p, payload, lifetime, &mut output, &mut buffer);
-    let panel = answer.panel;
-    let length = answer.length;
-    print_answer(b"send at panel ", panel, answer.number, answer.count);
-    print(b", frame ");
-    print_bytes(first(&buffer, length));
-    print(b"\n");
-    Sender {
-        panel,
-        buffer,
-        length,
-    }
 }
 
 fn receive(p: Panel, frame: &[u8]) -> Panel {
     let mut output = [0u8; 1254];
     let answer = by_value::panel_receive(p, frame, &mut output);
     let panel = answer.panel;
-    print_answer(b"receive at panel ", panel, answer.number, answer.count);
+    print_answer(
+        b"receive at panel ",
+        panel.own,
+        answer.number,
+        answer.count,
+        panel.count,
+    );
     print(b"\n");
     panel
 }
@@ -85,34 +67,44 @@ fn clock(p: Panel, time: u32) -> Panel {
     let mut output = [0u8; 1254];
     let answer = by_value::panel_clock(p, time, &mut output);
     let panel = answer.panel;
-    print_answer(b"clock at panel ", panel, answer.number, answer.count);
+    print_answer(
+        b"clock at panel ",
+        panel.own,
+        answer.number,
+        answer.count,
+        panel.count,
+    );
     print_item(b", time ", panel.time as u64);
     print(b"\n");
     panel
 }
 
-// A fresh panel receives the frame of the second send, and then that of the first.
-fn receive_both(one: Sender, two: Sender) -> Panel {
-    let receiver = receive(fresh(0), first(&two.buffer, two.length));
-    receive(receiver, first(&one.buffer, one.length))
-}
-
-fn cases_1_to_3() {
-    print(b"cases 1, 2 and 3, then an empty frame\n");
-    let one = send(clock(fresh(3), 100), b"OK", 0);
-    let two = send(one.panel, b"", 0);
-    receive(receive_both(one, two), b"");
-}
-
-fn case_6() {
-    print(b"case 6\n");
-    let last = send(clock(fresh(0), 4294967294), b"", 1);
-    send(last.panel, b"", 1);
+// A send; then a fresh panel 0 receives the frame.
+fn send(p: Panel, payload: &[u8], lifetime: u16) -> Panel {
+    let mut output = [0u8; 1254];
+    let mut buffer = [0u8; 307];
+    let answer = by_value::panel_send(p, payload, lifetime, &mut output, &mut buffer);
+    let panel = answer.panel;
+    let frame = first(&buffer, answer.length);
+    print_answer(
+        b"send at panel ",
+        panel.own,
+        answer.number,
+        answer.count,
+        panel.count,
+    );
+    print(b", frame ");
+    print_bytes(frame);
+    print(b"\n");
+    receive(fresh(0), frame);
+    panel
 }
 
 fn main() {
-    cases_1_to_3();
-    case_6();
+    print(b"cases 1 and 2\n");
+    send(send(clock(fresh(3), 100), b"OK", 0), b"", 0);
+    print(b"case 6\n");
+    send(send(clock(fresh(0), 4294967294), b"", 1), b"", 1);
     print(b"case 11\n");
     clock(clock(clock(fresh(0), 50), 50), 49);
     print(b"a panel number above 63\n");

@@ -17,10 +17,10 @@ from drawing import HARD, INK, LINE, QUIET, RED, Drawing, text_width, wrap
 
 ROOT = Path(__file__).resolve().parent.parent
 PICTURE = ROOT / "docs" / "layers.svg"
-WIDTH, MARGIN, GAP = 1200, 24, 14
+WIDTH, MARGIN, GAP = 1360, 24, 14
 CODE, PROMISES, DEFINITIONS, PROOF = "#123a63", "#7c9cc0", "#d08a1d", "#c9cdd2"
 GROUPS = {"theory": ("Theory: no code", "#fbf3df"), "module": ("The module", "#e3edf7"),
-          "tests": ("Test programs: no part of the module", "#f2f2f2")}
+          "tests": ("Test programs", "#f2f2f2")}
 OUTSIDE = "not proved: radio, C firmware, the compiler, C's read and write"
 PROVED = "proved: from the bytes to the order of each log, after every list of calls"
 LEGEND = ("A crate stands on those of lower layers; the number at the left is its layer. Bars: lines without blank and comment lines, all to one scale; "
@@ -29,7 +29,8 @@ LEGEND = ("A crate stands on those of lower layers; the number at the left is it
 NOTE = ("The numbers in red are document 01's refusals. The third call, `clock_in_place` (26, 10, 25), sets the time, drops what has lapsed (`alive`), and "
         "settles as in steps 10 to 12.")
 NAMES = 96  # the width of the lanes' names
-LABEL, BLOCK = 62, 196  # the width of the words before a bar, and of all bars of a box
+LABEL, NUMBER, BLOCK = 62, 45, 196  # the width of the words before a bar, of the number behind it, and of all bars of a box
+LEAST = 224  # the width of a group at least: that of the words of its sum
 
 def stop(message):
     sys.exit(f"docs/layers.py: {message}")  # exit code 1
@@ -164,22 +165,37 @@ def draw_crate(drawing, crate, marks, x, y, width, height, scale):
     return max(bottom, bars)
 
 def group_places(crates):
-    """The left edge and the width of each group, as many columns as its fullest layer has boxes; and the width of a column."""
-    count = lambda group: max(sum(crate.group == group and crate.layer == other.layer for crate in crates) for other in crates)
-    unit = (WIDTH - 2 * MARGIN - 20 - 2 * 2 * GAP) / sum(map(count, GROUPS))
+    """The left edge and the width of each group: by how many boxes its fullest layer has, but at least so wide."""
+    count = {group: max(sum(crate.group == group and crate.layer == other.layer for crate in crates) for other in crates) for group in GROUPS}
+    room = WIDTH - 2 * MARGIN - 20 - 2 * 2 * GAP
+    narrow = [group for group in GROUPS if room * count[group] < LEAST * sum(count.values())]
+    unit = (room - LEAST * len(narrow)) / sum(count[group] for group in GROUPS if group not in narrow)
     places, x = {}, MARGIN + 20
     for group in GROUPS:
-        places[group] = (x, unit * count(group))
-        x += unit * count(group) + 2 * GAP
-    return places, unit
+        places[group] = (x, LEAST if group in narrow else unit * count[group])
+        x += places[group][1] + 2 * GAP
+    return places
 
-def draw_layer(drawing, crates, marks, places, y, scale):
-    """The boxes of one layer. Returns the y below them."""
+def layer_boxes(crates, places):
+    """The crates of one layer, each with the left edge and the width of its box."""
     boxes = []
     for group, (x, width) in places.items():
         here = [crate for crate in crates if crate.group == group]
         each = (width - GAP * (len(here) - 1)) / max(len(here), 1)
         boxes += [(crate, x + number * (each + GAP), each) for number, crate in enumerate(here)]
+    return boxes
+
+def longest(sizes):
+    return max(sizes["proof"], sizes["code"] + sizes["promises"], sizes["definitions"], 1)
+
+def bars_scale(layers, places, sums):
+    """The width of a line, so that the bars of each box and of each sum have room."""
+    boxes = [(min(width - 16, BLOCK) if width > 2 * BLOCK else width - 16, crate.sizes) for layer in layers for crate, _, width in layer_boxes(layer, places)]
+    return min((width - LABEL - NUMBER) / longest(sizes) for width, sizes in boxes + [(places[group][1], sums[group]) for group in GROUPS])
+
+def draw_layer(drawing, crates, marks, places, y, scale):
+    """The boxes of one layer. Returns the y below them."""
+    boxes = layer_boxes(crates, places)
     height = max(draw_crate(Drawing(), crate, marks, x, 0, width, 0, scale) for crate, x, width in boxes)
     for crate, x, width in boxes:
         draw_crate(drawing, crate, marks, x, y, width, height, scale)
@@ -188,20 +204,19 @@ def draw_layer(drawing, crates, marks, places, y, scale):
 
 def draw_layers(drawing, crates, steps, y):
     """All layers, the top one first, the line where the proof ends, and the sums."""
-    places, column = group_places(crates)
+    places = group_places(crates)
+    layers = [[crate for crate in crates if crate.layer == layer] for layer in range(max(crate.layer for crate in crates), -1, -1)]
     marks = {step.crate: [other.mark for other in steps if other.crate == step.crate] for step in steps if step.crate}
     sums = {group: {key: sum(crate.sizes[key] for crate in crates if crate.group == group) for key in crates[0].sizes} for group in GROUPS}
-    longest = lambda sizes: max(sizes["proof"], sizes["code"] + sizes["promises"], sizes["definitions"], 1)
-    scale = min([(column - LABEL - 80) / longest(crate.sizes) for crate in crates]
-                + [(places[group][1] - LABEL - 60) / longest(sums[group]) for group in GROUPS])
+    scale = bars_scale(layers, places, sums)
     for group, (x, width) in places.items():
         drawing.text(x, y, GROUPS[group][0], 14, INK, True)
     proved = max(crate.layer for crate in crates if crate.group == "module" and crate.sizes["promised"])
     y += 10
-    for layer in range(max(crate.layer for crate in crates), -1, -1):
-        if layer == proved:
+    for layer in layers:
+        if layer[0].layer == proved:
             line, y = y + 16, y + 38
-        y = draw_layer(drawing, [crate for crate in crates if crate.layer == layer], marks, places, y, scale) + GAP
+        y = draw_layer(drawing, layer, marks, places, y, scale) + GAP
     edge, (x, width) = places["tests"][0] - GAP, places["module"]
     draw_proof_line(drawing, [(MARGIN, line), (edge, line), (edge, y + 66)], x + width / 2)
     for group, (x, width) in places.items():

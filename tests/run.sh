@@ -114,6 +114,8 @@ test_beside() {
     $built/beside --list target/bin/list --faults
 }
 
+[ -n "${WITHOUT_RUST:-}" ] || command -v rustc >/dev/null ||
+    fail "there is no rustc, which builds the second implementation (WITHOUT_RUST=1 leaves it out)"
 mkdir -p $built
 say "installing the module to $to"
 install_module
@@ -136,8 +138,6 @@ done
 if [ -n "${WITHOUT_RUST:-}" ]; then
     say "the calls from Rust and the second implementation are left out, as WITHOUT_RUST is set"
 else
-    command -v rustc >/dev/null ||
-        fail "there is no rustc, which builds the second implementation (WITHOUT_RUST=1 leaves it out)"
     say "the calls from Rust"
     test_rust
     say "the module beside the second implementation, then with faults planted in that"

@@ -67,11 +67,6 @@ and-trailing (suc k) bits pos fits = go (λ pos′. and-trailing k (bits / 2) po
 
 -- ---- the ones of a mask
 
-pub onesIn-zero : (n : ℕ) → onesIn n 0 ≡ 0
-unfolding onesIn
-onesIn-zero zero = refl
-onesIn-zero (suc n) = rw zero-add (onesIn-zero n)
-
 onesIn-add : (n more mask : ℕ) → onesIn (n + more) mask ≡ onesIn n mask + onesIn more (mask / 2 ^ n)
 unfolding onesIn
 onesIn-add zero more mask = rw (div-one, zero-add more, zero-add)

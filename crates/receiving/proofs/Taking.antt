@@ -19,7 +19,7 @@ use Rattle.rules.specs.Settling.{withWaiting}
 use Rattle.slots.specs.Slots.{slotLength, Reads, Slots, Kept, held, firstSlots}
 use Rattle.slots.proofs.Held.{carried-reads}
 use Rattle.slots.proofs.Kept.{listed-order, held-order}
-use Rattle.slot_check.proofs.Ones.{onesIn-le}
+use Rattle.numbers.proofs.Ones.{onesIn-le}
 use Rattle.slot_moves.proofs.Kept.{slots-put, held-put, kept-put}
 use Rattle.choosing.specs.Choice.{asking}
 use Rattle.settling.specs.declared.Settling.{Settling}

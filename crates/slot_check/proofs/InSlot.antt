@@ -16,7 +16,7 @@ use Rattle.frame.specs.Reading.{countIn, entriesIn, lengthIn, eachEarlier}
 use Rattle.frame.proofs.Passed.{Passed, zero-passed, passed-zero}
 use Rattle.rules.specs.Sizes.{width, bufferLength}
 use Rattle.slots.specs.Slots.{slotLength, framed, Reads}
-use Rattle.slot_check.proofs.Ones.{onesIn-le}
+use Rattle.numbers.proofs.Ones.{onesIn-le}
 use Rattle.slots.proofs.Framed.{framed-long, framed-short, drop-take}
 
 -- ---- the numbers of a frame stand in its slot, two places further on

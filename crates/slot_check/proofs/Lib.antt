@@ -1,4 +1,3 @@
--- Laws of slots that hold readable frames: the ones of a mask, the numbers in a slot, and the test of each slot.
-pub mod Ones
+-- Laws of slots that hold readable frames: the numbers in a slot, and the test of each slot.
 pub mod InSlot
 pub mod Tests

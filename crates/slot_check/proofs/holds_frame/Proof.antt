@@ -15,7 +15,7 @@ use Rattle.numbers.specs.Numbers.{Bytes, numberAt, numbersAt}
 use Rattle.frame.specs.Reading.{eachEarlier, refusal}
 use Rattle.slots.specs.Slots.{framed}
 use Rattle.frame.proofs.EachNumber.{eachEarlier-none, eachEarlier-zero, eachEarlier-late, eachEarlier-next}
-use Rattle.slot_check.proofs.Ones.{onesIn-le, onesIn-none, onesIn-and}
+use Rattle.numbers.proofs.Ones.{onesIn-le, onesIn-zero, onesIn-and}
 use Rattle.slot_check.proofs.InSlot.{countOf, payloadOf, Holds, holds-reads, reads-holds, eqb-both}
 use Rattle.slot_check.proofs.holds_frame.Statement.{statement}
 use Rattle.slot_check.proofs.holds_frame.Tie as tie
@@ -58,7 +58,7 @@ late c fails h = true≢false (sym (h .entries) ∙ rw (← c .before .before .b
 
 -- behind the loop none is left, and `at` is the place of the payload's length
 none : (c : tie.After-loop Inv-loop μ-loop) → onesIn 64 (c .before .loop .bits) ≡ 0
-none c = ap (onesIn 64) (c .loop-test .left) ∙ onesIn-none 64
+none c = ap (onesIn 64) (c .loop-test .left) ∙ onesIn-zero 64
 
 ended : (c : tie.After-loop Inv-loop μ-loop) → c .before .loop .at ≡ 20 + 4 * countOf (bytes (start (c .before)))
 ended c = omega (arith, c .before .loop .inv .1, none c)

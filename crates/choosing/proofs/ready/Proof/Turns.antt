@@ -17,8 +17,9 @@ use Rattle.frame.specs.Reading.{maskIn, countIn, entriesIn, messageIn}
 use Rattle.frame.proofs.Panels.{getD-byPanel, onesIn-lt}
 use Rattle.rules.specs.Panel.{met, lapsed, eachPanel, ready}
 use Rattle.rules.proofs.Ready.{eachPanel-true}
+use Rattle.numbers.proofs.Ones.{onesIn-zero}
 use Rattle.choosing.specs.Choice.{asking}
-use Rattle.choosing.proofs.SetBits.{from, next, More, step, next-step, next-unset, next-set, next-lt, next-rest, onesIn-next, onesIn-after, onesIn-zero}
+use Rattle.choosing.proofs.SetBits.{from, next, More, step, next-step, next-unset, next-set, next-lt, next-rest, onesIn-next, onesIn-after}
 
 -- an entry beside the mark of its panel
 abbrev pub metBy : ℕ → ℕ → ℕ → Bool

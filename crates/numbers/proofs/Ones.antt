@@ -11,10 +11,10 @@ unfolding onesIn
 onesIn-le zero mask = omega arith
 onesIn-le (suc n) mask = omega (arith, onesIn-le n (mask / 2))
 
-pub onesIn-none : (n : ℕ) → onesIn n 0 ≡ 0
+pub onesIn-zero : (n : ℕ) → onesIn n 0 ≡ 0
 unfolding onesIn
-onesIn-none zero = refl
-onesIn-none (suc n) = omega (arith, onesIn-none n)
+onesIn-zero zero = refl
+onesIn-zero (suc n) = omega (arith, onesIn-zero n)
 
 -- `bits & (bits - 1)` has one less
 pub onesIn-and : (n bits : ℕ) → 0 < bits → bits < 2 ^ n → onesIn n bits ≡ onesIn n (bitAnd bits (bits - 1)) + 1

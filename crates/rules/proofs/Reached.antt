@@ -64,7 +64,7 @@ step earlier L i (clock time output) given = clock-step earlier L i time output
 
 pub list-sound : (list : List Made) → Lawful list → AllPromised list → ListSound list
 list-sound [] lawful promised = empty-sound
-list-sound (last ∷ earlier) (number, given, lawful) (promise, promised) =
+list-sound (last ∷ earlier) (given, lawful) (promise, promised) =
     subst⁻¹ (λ result. Given (sends earlier) (last .call) result → ListSound (made (last .at) (last .call) result ∷ earlier)) promise
     (step earlier (list-sound earlier lawful promised) (last .at) (last .call)) given
 

@@ -2,7 +2,7 @@
 use Prim.Native.Nat.{ℕ}
 use native.Mathlib.Omega.{arith}
 use mathlib.Core.Path.{_≡_, refl}
-use mathlib.Core.Logic.{inl}
+use mathlib.Core.Logic.{inl, inr}
 use mathlib.Core.List.{List, [], _∷_, _++_, List·Memᴰ·head as first, List·Memᴰ·tail as later}
 use Rattle.numbers.specs.Numbers.{Bytes}
 use Rattle.frame.specs.Reading.{messageIn}
@@ -14,7 +14,7 @@ use Rattle.rules.specs.Settling.{withWaiting}
 use Rattle.rules.specs.Calls.{handAndSettle}
 use Rattle.rules.specs.Results.{Call, send, receive, clock, Result, done, defined}
 use Rattle.rules.specs.Lists.{_isIn_, Made, recordAt, framesSent, framesTaken, sentAt, takenAt, namesIn, logAt, timeAfter, timeAt, LapsedAt, sends, Before, direct, Given, Lawful, ran}
-use Rattle.rules.specs.Demand3.{Ahead}
+use Rattle.rules.specs.Demand3.{ExactlyWhen, NoneTwice, NoneAhead}
 use Rattle.rules.specs.BenchCases.{output, buffer, frame1, frame2}
 use Rattle.rules.proofs.BenchCases.{callsOpened}
 use Rattle.rules.proofs.Cause.{LastStep, last}
@@ -74,7 +74,7 @@ shamsOpened = tt
 
 -- ---- they are lists that demand 3 speaks of
 
-payload-bytes : Bytes (0x4f ∷ 0x4b ∷ [])
+pub payload-bytes : Bytes (0x4f ∷ 0x4b ∷ [])
 unfolding eachBelow
 payload-bytes = eachBelow-lt 256 (0x4f ∷ 0x4b ∷ []) (omega arith) refl
 
@@ -83,42 +83,42 @@ empty-bytes i = omega arith
 
 pub once-lawful : Lawful (once holdsBack)
 unfolding shamsOpened
-once-lawful = (omega arith, inl (_, first refl, refl), (omega arith, payload-bytes, tt))
+once-lawful = (inl (_, first refl, refl), (payload-bytes, tt))
 
 pub twice-lawful : Lawful (twice recordAsItCame)
 unfolding shamsOpened
-twice-lawful =
-    (omega arith, inl (_, first refl, refl), (omega arith, inl (_, first refl, refl), (omega arith, payload-bytes, tt)))
+twice-lawful = (inl (_, first refl, refl), (inl (_, first refl, refl), (payload-bytes, tt)))
 
 pub crossed-lawful : Lawful (crossed handsOnArrival)
 unfolding shamsOpened
-crossed-lawful = (
-  omega arith,
-  inl (_, later (first refl), refl),
-  (omega arith, inl (_, first refl, refl), (omega arith, empty-bytes, (omega arith, payload-bytes, tt))),
-)
+crossed-lawful = (inl (_, later (first refl), refl), (inl (_, first refl, refl), (empty-bytes, (payload-bytes, tt))))
 
 -- ---- and their logs are not as demand 3 says
 
--- Taken, not lapsed, and nothing is before it in cause, but it does not stand in the log.
-pub holding-back-breaks : (hold isIn takenAt 0 (once holdsBack)) × ¬ LapsedAt 0 (once holdsBack) hold
+-- Held back: taken, not lapsed, and nothing is before it in cause, but it does not stand in the log.
+holding-back : (hold isIn takenAt 0 (once holdsBack)) × ¬ LapsedAt 0 (once holdsBack) hold
     × ((x : Name) → ¬ Before (sends (once holdsBack)) x hold) × ¬ (hold isIn logAt 0 (once holdsBack))
 unfolding shamsOpened
-holding-back-breaks = (first refl, λ lt. omega (arith, lt), λ x b. alone x (last b), λ i. elim i [ ])
+holding-back = (first refl, λ lt. omega (arith, lt), λ x b. alone x (last b), λ i. elim i [ ])
   where
     alone : (x : Name) → LastStep (sends (once holdsBack)) x hold → ⊥
     alone x (y, u, s, first e, q, h) = elim (rw e at h) [ ]
     alone x (y, u, s, later i, q, h) = elim i [ ]
 
--- One stands ahead of another that is before it in cause.
-pub arrival-breaks : Ahead lifted hold (logAt 0 (crossed handsOnArrival)) × Before (sends (crossed handsOnArrival)) hold lifted
-unfolding shamsOpened
-arrival-breaks = (inl (refl, first refl), direct _ (first refl) refl (first refl))
+pub holding-back-breaks : ¬ ExactlyWhen (once holdsBack)
+holding-back-breaks exactly-when =
+    let (taken, live, alone, missing) = holding-back in
+    missing (exactly-when 0 hold (inr taken) live .1 (λ x b. absurd (alone x b)))
 
--- A message stands in the log twice.
-pub record-as-it-came-breaks : Ahead hold hold (logAt 0 (twice recordAsItCame))
+-- Handed on arrival: one stands ahead of another that is before it in cause.
+pub arrival-breaks : ¬ NoneAhead (crossed handsOnArrival)
 unfolding shamsOpened
-record-as-it-came-breaks = inl (refl, first refl)
+arrival-breaks none-ahead = none-ahead 0 lifted hold (inl (refl, first refl)) (direct _ (first refl) refl (first refl))
+
+-- The record as it came: a message stands in the log twice.
+pub record-as-it-came-breaks : ¬ NoneTwice (twice recordAsItCame)
+unfolding shamsOpened
+record-as-it-came-breaks none-twice = none-twice 0 hold (inl (refl, first refl))
 
 -- With the defined results the log is in the order of cause.
 pub crossed-in-order : logAt 0 (crossed defined) ≡ hold ∷ lifted ∷ []

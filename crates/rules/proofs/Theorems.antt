@@ -1,8 +1,9 @@
 -- What is shown of one call, of settling and of every list of calls. Assumes nothing.
 use Prim.Native.Nat.{ℕ, _≤_, _<_}
+use native.Mathlib.Decide.{decLt}
 use native.Mathlib.Omega.{arith}
 use mathlib.Core.Path.{_≡_, refl, ap, _∙_}
-use mathlib.Core.Logic.{_⊎_, inl, inr, ⊎-elim, _≢_}
+use mathlib.Core.Logic.{_⊎_, inl, inr, ⊎-elim, by-cases, _↔_, _≢_}
 use mathlib.Core.Bool.{true, false, _||_}
 use mathlib.Core.List.{List, [], _∷_}
 use lib.ListN.{length, getD, take}
@@ -29,8 +30,9 @@ use Rattle.rules.proofs.Booleans.{or-either, cond-both}
 use Rattle.rules.proofs.Settling.{settle-settles}
 use Rattle.rules.proofs.Handed.{effect-count}
 use Rattle.rules.proofs.Checks.{false-broken, send-passed, new-readable}
-use Rattle.rules.proofs.Cause.{named}
+use Rattle.rules.proofs.Cause.{named, known-deadline}
 use Rattle.rules.proofs.Results.{defined-both, defined-number, passed-valid, BytesOf, output-fits, buffer-fits, checks-listed, number-26}
+use Rattle.rules.proofs.Steps.{ListSound}
 use Rattle.rules.proofs.Reached.{list-sound, logged-whole, whole-logged, reached-valid}
 
 -- ---- demand 3
@@ -59,9 +61,27 @@ every-list gives promise calls lawful = demand-3 (ran gives calls) lawful (promi
 pub mark-largest : (list : List Made) → Lawful list → AllPromised list → (panel source : ℕ)
     → let mark = getD (recordAt panel list .marks) source 0 in
     ((x : Name) → x isIn logAt panel list → x .source ≡ source → x .deadline ≤ mark) × (0 < mark → named source mark isIn logAt panel list)
-mark-largest list lawful promised panel source =
-    let K = list-sound list lawful promised .sites panel .sound .summary in
-    (λ x logged same. rw same at (K .below-mark x logged), K .mark-logged source)
+    × ((mark ≡ 0) ↔ ((x : Name) → x isIn logAt panel list → x .source ≢ source))
+mark-largest list lawful promised panel source = (below, largest, (none, zero))
+  where
+    L : ListSound list
+    L = list-sound list lawful promised
+
+    mark : ℕ
+    mark = getD (recordAt panel list .marks) source 0
+
+    below : (x : Name) → x isIn logAt panel list → x .source ≡ source → x .deadline ≤ mark
+    below x logged same = rw same at (L .sites panel .sound .summary .below-mark x logged)
+
+    largest : 0 < mark → named source mark isIn logAt panel list
+    largest = L .sites panel .sound .summary .mark-logged source
+
+    none : mark ≡ 0 → (x : Name) → x isIn logAt panel list → x .source ≢ source
+    none e x logged same =
+        omega (arith, e, below x logged same, known-deadline (L .sends-sound) (L .sites panel .sound .log-sound .known x logged))
+
+    zero : ((x : Name) → x isIn logAt panel list → x .source ≢ source) → mark ≡ 0
+    zero without = by-cases (decLt 0 mark) (λ above. absurd (without _ (largest above) refl)) (λ e. omega (arith, e))
 
 -- A record reached by a list is never refused with 26.
 pub never-26 : (list : List Made) → Lawful list → AllPromised list → (panel : ℕ) → panel < 64

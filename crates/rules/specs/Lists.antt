@@ -124,10 +124,10 @@ Given sent (send payload lifetime output buffer) result = Bytes payload
 Given sent (receive bytes output) result = ((s : Sent) × (s isIn sent) × (s .frame ≡ bytes)) ⊎ (result .number ≢ 0)
 Given sent (clock time output) result = Unit {0}
 
--- A list starts with fresh panels, of numbers up to 63; it may be empty.
+-- Each call of a list was given what demand 3 allows; the list may be empty.
 abbrev pub Lawful : List Made → Type 0
 Lawful [] = Unit {0}
-Lawful (made ∷ earlier) = (made .at < 64) × Given (sends earlier) (made .call) (made .result) × Lawful earlier
+Lawful (made ∷ earlier) = Given (sends earlier) (made .call) (made .result) × Lawful earlier
 
 -- each call gave what it promises
 abbrev pub AllPromised : List Made → Type 0

@@ -1,4 +1,5 @@
 -- The demands, kept by the code.
 pub mod Following
-pub mod Learning
+pub mod Example
+pub mod Calls
 pub mod Demands

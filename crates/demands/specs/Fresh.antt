@@ -1,0 +1,32 @@
+-- What lists of calls begin with: for a panel's number, the record that a caller of a fresh function learns of.
+use Prim.Native.Nat.{_≤_}
+use mathlib.Core.Path.{_≡_}
+use borrow.Fn.Kinds.{Dens, resT, endedOf}
+use contract.Lifetimes.{Lfts}
+use denote.Ref.{now}
+use denote.Triple.Clauses.{AtExit}
+use Rattle.rules.specs.Panel.{fresh}
+use Rattle.parts.specs.Record.{parts, recordOf}
+use Rattle.panel.specs.Record.{partsOf}
+use Rattle.exports.proofs.panel_fresh_parts.Kinds as in-place
+use Rattle.exports.proofs.panel_fresh_parts.Reads as in-place-reads
+use Rattle.panel.proofs.panel_fresh.Kinds as by-value
+use Rattle.panel.proofs.panel_fresh.Reads as by-value-reads
+
+-- in place: the record in the lent parts as the call ends
+abbrev pub FreshInPlace : Type 0
+FreshInPlace =
+    (κs : Lfts 7) (given : Dens κs in-place.ps) (answer : resT in-place.r κs .Denot) (ended : AtExit (endedOf 7 in-place.ps in-place.r) κs)
+    → in-place-reads.Learnt κs given answer ended
+    → given .0 ≤ 63
+    → let left = ended .1 in
+    recordOf (parts (now (left .0)) (now (left .1 .0)) (now (left .1 .1 .0)) (now (left .1 .1 .1 .0)) (now (left .1 .1 .1 .1 .0)) (now (left .1 .1 .1 .1 .1 .0)) (now (left .1 .1 .1 .1 .1 .1 .0)))
+    ≡ fresh (given .0)
+
+-- by value: that of the struct in the answer
+abbrev pub FreshByValue : Type 0
+FreshByValue =
+    (κs : Lfts 0) (given : Dens κs by-value.ps) (answer : resT by-value.r κs .Denot) (ended : AtExit (endedOf 0 by-value.ps by-value.r) κs)
+    → by-value-reads.Learnt κs given answer ended
+    → given .0 ≤ 63
+    → recordOf (partsOf (answer .panel)) ≡ fresh (given .0)

@@ -1,0 +1,125 @@
+-- Which calls the module makes: those of which a caller of one of its functions learns, by the function's own theorem.
+use Prim.Native.Nat.{ℕ}
+use mathlib.Core.Path.{_≡_}
+use mathlib.Core.List.{List, []}
+use borrow.Fn.Kinds.{PK, RK, Dens, resT, endedOf, Out}
+use contract.Lifetimes.{Lfts}
+use denote.Ref.{now}
+use denote.Triple.Clauses.{AtExit}
+use Rattle.rules.specs.Results.{send, receive, clock}
+use Rattle.parts.specs.Record.{parts}
+use Rattle.panel.specs.Record.{partsOf}
+use Rattle.exports.proofs.panel_send_parts.Kinds as send-parts
+use Rattle.exports.proofs.panel_send_parts.Reads as send-parts-reads
+use Rattle.exports.proofs.panel_receive_parts.Kinds as receive-parts
+use Rattle.exports.proofs.panel_receive_parts.Reads as receive-parts-reads
+use Rattle.exports.proofs.panel_clock_parts.Kinds as clock-parts
+use Rattle.exports.proofs.panel_clock_parts.Reads as clock-parts-reads
+use Rattle.by_value.proofs.panel_send.Kinds as send-value
+use Rattle.by_value.proofs.panel_send.Reads as send-value-reads
+use Rattle.by_value.proofs.panel_receive.Kinds as receive-value
+use Rattle.by_value.proofs.panel_receive.Reads as receive-value-reads
+use Rattle.by_value.proofs.panel_clock.Kinds as clock-value
+use Rattle.by_value.proofs.panel_clock.Reads as clock-value-reads
+use Rattle.demands.specs.Runs.{Run}
+
+-- Of a function with these lifetimes, parameters and result: what it is given, what it answers, and what is lent to it as it ends make a call.
+abbrev pub Makes : (lifetimes : ℕ) → List (PK lifetimes) → RK lifetimes → Type 0
+Makes lifetimes parameters result =
+    (κs : Lfts lifetimes) → Dens κs parameters → resT result κs .Denot → AtExit (endedOf lifetimes parameters result) κs → Run
+
+-- A call of that function: `learnt` is what its theorem tells whoever called it, and that is its promise.
+abbrev pub CallOf : (lifetimes : ℕ) (parameters : List (PK lifetimes)) (result : RK lifetimes) → Out lifetimes parameters result
+    → Makes lifetimes parameters result → Run → Type 0
+CallOf lifetimes parameters result learnt makes run =
+    (κs : Lfts lifetimes) × (given : Dens κs parameters) × (answer : resT result κs .Denot)
+    × (ended : AtExit (endedOf lifetimes parameters result) κs) × learnt κs given answer ended × (makes κs given answer ended ≡ run)
+
+-- ---- in place: the parts of the record as they are lent, and as the call ends
+
+abbrev pub sendInPlace : Makes 8 send-parts.ps send-parts.r
+sendInPlace κs given answer ended =
+    let lent = given .1 .1 in
+    let others = lent .1 .1 .1 .1 .1 in
+    let left = ended .1 .1 in
+    record {
+      given = parts (given .0) (given .1 .0) (now (lent .0)) (now (lent .1 .0)) (now (lent .1 .1 .0)) (now (lent .1 .1 .1 .0)) (now (lent .1 .1 .1 .1 .0));
+      call = send (now (others .0)) (others .1 .0) (now (others .1 .1 .0)) (now (others .1 .1 .1 .0));
+      answer = answer;
+      left = parts (given .0) (given .1 .0) (now (left .0)) (now (left .1 .0)) (now (left .1 .1 .0)) (now (left .1 .1 .1 .0)) (now (left .1 .1 .1 .1 .0));
+      output = now (left .1 .1 .1 .1 .1 .1 .1 .0);
+      buffer = now (left .1 .1 .1 .1 .1 .1 .1 .1 .0);
+    }
+
+abbrev pub receiveInPlace : Makes 7 receive-parts.ps receive-parts.r
+receiveInPlace κs given answer ended =
+    let lent = given .1 .1 in
+    let others = lent .1 .1 .1 .1 .1 in
+    let left = ended .1 .1 in
+    record {
+      given = parts (given .0) (given .1 .0) (now (lent .0)) (now (lent .1 .0)) (now (lent .1 .1 .0)) (now (lent .1 .1 .1 .0)) (now (lent .1 .1 .1 .1 .0));
+      call = receive (now (others .0)) (now (others .1 .0));
+      answer = answer;
+      left = parts (given .0) (given .1 .0) (now (left .0)) (now (left .1 .0)) (now (left .1 .1 .0)) (now (left .1 .1 .1 .0)) (now (left .1 .1 .1 .1 .0));
+      output = now (left .1 .1 .1 .1 .1 .1 .0);
+      buffer = [];
+    }
+
+abbrev pub clockInPlace : Makes 7 clock-parts.ps clock-parts.r
+clockInPlace κs given answer ended =
+    let lent = given .1 in
+    let others = lent .1 .1 .1 .1 .1 .1 in
+    let left = ended .1 in
+    record {
+      given = parts (given .0) (now (lent .0)) (now (lent .1 .0)) (now (lent .1 .1 .0)) (now (lent .1 .1 .1 .0)) (now (lent .1 .1 .1 .1 .0)) (now (lent .1 .1 .1 .1 .1 .0));
+      call = clock (others .0) (now (others .1 .0));
+      answer = answer;
+      left = parts (given .0) (now (left .0)) (now (left .1 .0)) (now (left .1 .1 .0)) (now (left .1 .1 .1 .0)) (now (left .1 .1 .1 .1 .0)) (now (left .1 .1 .1 .1 .1 .0));
+      output = now (left .1 .1 .1 .1 .1 .1 .1 .0);
+      buffer = [];
+    }
+
+-- ---- by value: the struct given, and the struct given back in the answer
+
+abbrev pub sendByValue : Makes 3 send-value.ps send-value.r
+sendByValue κs given answer ended =
+    record {
+      given = partsOf (given .0);
+      call = send (now (given .1 .0)) (given .1 .1 .0) (now (given .1 .1 .1 .0)) (now (given .1 .1 .1 .1 .0));
+      answer = record { count = answer .count; length = answer .length; number = answer .number };
+      left = partsOf (answer .panel);
+      output = now (ended .1 .1 .1 .0);
+      buffer = now (ended .1 .1 .1 .1 .0);
+    }
+
+abbrev pub receiveByValue : Makes 2 receive-value.ps receive-value.r
+receiveByValue κs given answer ended =
+    record {
+      given = partsOf (given .0);
+      call = receive (now (given .1 .0)) (now (given .1 .1 .0));
+      answer = record { count = answer .count; length = 0; number = answer .number };
+      left = partsOf (answer .panel);
+      output = now (ended .1 .1 .0);
+      buffer = [];
+    }
+
+abbrev pub clockByValue : Makes 1 clock-value.ps clock-value.r
+clockByValue κs given answer ended =
+    record {
+      given = partsOf (given .0);
+      call = clock (given .1 .0) (now (given .1 .1 .0));
+      answer = record { count = answer .count; length = 0; number = answer .number };
+      left = partsOf (answer .panel);
+      output = now (ended .1 .1 .0);
+      buffer = [];
+    }
+
+-- ---- a call of the module is a call of one of these six functions
+
+pub data Ran (run : Run) : Type 0 where
+  panel-send-parts : CallOf 8 send-parts.ps send-parts.r send-parts-reads.Learnt sendInPlace run → Ran run
+  panel-receive-parts : CallOf 7 receive-parts.ps receive-parts.r receive-parts-reads.Learnt receiveInPlace run → Ran run
+  panel-clock-parts : CallOf 7 clock-parts.ps clock-parts.r clock-parts-reads.Learnt clockInPlace run → Ran run
+  panel-send : CallOf 3 send-value.ps send-value.r send-value-reads.Learnt sendByValue run → Ran run
+  panel-receive : CallOf 2 receive-value.ps receive-value.r receive-value-reads.Learnt receiveByValue run → Ran run
+  panel-clock : CallOf 1 clock-value.ps clock-value.r clock-value-reads.Learnt clockByValue run → Ran run

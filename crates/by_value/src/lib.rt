@@ -1,5 +1,5 @@
-// Send, receive and clock by value, for callers in Rattle, thin over those in place. No public
-// function asks anything of its caller; what each promises is that of document 01, for every argument.
+// Send, receive and clock by value, for callers in Rattle, thin over those in place. Each accepts any
+// input; what it promises is that of document 01, for every argument.
 mod clock;
 mod receive;
 mod send;

@@ -1,5 +1,5 @@
 // The checks of a receive: the number of the first that turns a frame down, on a record that is only
-// read. An internal crate: its functions ask for slots, and the last of the checks for a readable frame.
+// read. An internal crate. Preconditions: the bytes of slots; for the last checks a readable frame.
 use choosing::ready;
 use frame::frame_check;
 use parts::broken;

@@ -1,6 +1,5 @@
-// The choice: which waiting messages are ready, and which of them goes first. An internal crate: its
-// functions ask their callers for slots that hold readable frames, and the calls of a panel, which
-// refuse any other record, give them.
+// The choice: which waiting messages are ready, and which of them goes first. An internal crate.
+// Precondition: slots that hold readable frames; the calls of a panel refuse any other record.
 use numbers::number_at;
 use slots::deadline;
 use slots::kept_frame;

@@ -1,6 +1,7 @@
 // Clock, in place on a lent record. Of the record it may touch time, high, count, marks, barrier and
-// slots, and beside it the output; the own number it only reads. `clock_in_place` asks nothing of its
-// caller; what it promises is document 01's clock, for every argument.
+// slots, and beside it the output; the own number it only reads. It accepts any input, and what it
+// promises is document 01's clock, for every argument. An internal crate: `exports` and `by_value` have
+// the public calls.
 use parts::Answer;
 use parts::broken;
 use parts::settle_slots;

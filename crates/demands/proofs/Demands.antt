@@ -20,7 +20,7 @@ use Rattle.rules.specs.Demand3.{Demand3}
 use Rattle.rules.proofs.Theorems.{demand-3, number-listed, refusal-unchanged}
 use Rattle.exports.proofs.Fresh.{freshRecord-within}
 use Rattle.demands.specs.Runs.{Run, madeOf}
-use Rattle.demands.specs.Fresh.{FreshInPlace, FreshByValue}
+use Rattle.demands.specs.Beginning.{BeginsInPlace, BeginsByValue}
 use Rattle.demands.specs.Lists.{Follows}
 use Rattle.demands.proofs.Following.{follows-promised}
 use Rattle.demands.proofs.Calls.{Calls, calls}
@@ -37,8 +37,8 @@ pub record Demands (M : Type 1) : Type 2 where
   pub read-written : (bytes : List ℕ) (m : Message) → Bytes bytes → reading width bytes ≡ message m → frame width m ≡ bytes
   -- Demand 3: after every list of calls of the module, in place and by value, in which each receive is given a frame that an earlier send of
   -- the list wrote, or is refused. The lists begin with the records that fresh gives.
-  pub fresh-in-place : FreshInPlace
-  pub fresh-by-value : FreshByValue
+  pub begins-in-place : BeginsInPlace
+  pub begins-by-value : BeginsByValue
   pub every-list : (list : List Run) → Follows list → Lawful (map madeOf list) → Demand3 (map madeOf list)
 
 -- The code keeps the demands.
@@ -50,7 +50,7 @@ demands =
       refusals = refusal-unchanged;
       written-reads = λ m e. reading-frame width m (omega arith, omega arith) e;
       read-written = λ bytes m b e. frame-reading width bytes m b e;
-      fresh-in-place = λ κs given answer ended learnt within. learnt .1 ∙ freshRecord-within (given .0) within;
-      fresh-by-value = λ κs given answer ended learnt within. learnt .1 ∙ freshRecord-within (given .0) within;
+      begins-in-place = λ κs given answer ended learnt within. learnt .1 ∙ freshRecord-within (given .0) within;
+      begins-by-value = λ κs given answer ended learnt within. learnt .1 ∙ freshRecord-within (given .0) within;
       every-list = λ list follows lawful. demand-3 (map madeOf list) lawful (follows-promised list follows);
     }

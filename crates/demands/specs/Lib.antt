@@ -1,5 +1,5 @@
 -- Lists of calls of the module itself.
 pub mod Runs
 pub mod Functions
-pub mod Fresh
+pub mod Beginning
 pub mod Lists

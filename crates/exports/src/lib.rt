@@ -1,5 +1,6 @@
 // The calls in place for C, on a record that is lent in its parts; include/panel.h makes of them calls
-// on a pointer to the struct. Each may touch what the call may (fresh: every part).
+// on a pointer to the struct. Each accepts any input, and may touch what the call may (fresh: every
+// part).
 use clocking::clock_in_place;
 use parts::Answer;
 use receiving::receive_in_place;

@@ -1,5 +1,5 @@
 // Frames of version 1: checking and reading them. What is promised stands in specs/, in document
-// 01's order. No public function asks anything of its caller.
+// 01's order. Each public function accepts any input.
 use numbers::number_at;
 use std::num::wrapping_sub_u64;
 ghost use mathlib.Core.Path.{_≡_};

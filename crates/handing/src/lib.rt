@@ -1,6 +1,6 @@
 // Handing: a message's log record goes behind those before it, and high, its source's mark and barrier
-// entry become at least its deadline. An internal crate: its functions ask their callers for readable
-// frames and for room, and the calls of a panel, which refuse anything else, give them.
+// entry become at least its deadline. An internal crate. Preconditions: readable frames, and room in the
+// output; the calls of a panel refuse anything else.
 use numbers::number_at;
 use numbers::put_bytes;
 use numbers::put_number;

@@ -1,5 +1,5 @@
 // The lines that the program "list" prints, put into a buffer. Each function gives the place behind
-// what it has put. An internal crate: its functions ask their callers for room.
+// what it has put. An internal crate. Precondition: room in the buffer.
 use log_records::log_payload;
 use log_records::panel_log_fields;
 use text::put_hexadecimal;

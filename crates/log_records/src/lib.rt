@@ -1,5 +1,5 @@
 // Log records read: what the record of an index in an output or a log says, and its payload as a
-// part of the log. No public function asks anything of its caller.
+// part of the log. Each public function accepts any input.
 use numbers::number_at;
 ghost use mathlib.Core.Path.{_≡_};
 ghost use Rattle.log_records.specs.LogRecords.{isWhole, fieldsIn, logRecordAt, PayloadPart};

@@ -1,5 +1,5 @@
-// Numbers of several bytes, the highest byte first, in a slice. An internal crate: its functions ask
-// their callers for room, and the crates above it, which refuse bad input, give it.
+// Numbers of several bytes, the highest byte first, in a slice. An internal crate.
+// Precondition: room in the slice; the crates above refuse what is too short.
 ghost use mathlib.Core.Path.{_≡_};
 ghost use Prim.Native.Nat.{_+_, _^_, _≤_, _<_};
 ghost use lib.ListN.{length};

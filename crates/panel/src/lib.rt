@@ -1,5 +1,5 @@
-// The panel's record as a struct, and fresh by value, thin over fresh in place. `panel_fresh` asks
-// nothing of its caller.
+// The panel's record as a struct, and fresh by value, thin over fresh in place. `panel_fresh`
+// accepts any input.
 use exports::panel_fresh_parts;
 ghost use mathlib.Core.Path.{_≡_};
 ghost use Rattle.rules.specs.Refusals.{freshNumber, freshRecord};

@@ -1,6 +1,7 @@
 // Receive, in place on a lent record. Of the record it may touch high, count, marks, barrier and
-// slots, and beside it the output; own number and time it only reads. `receive_in_place` asks nothing
-// of its caller; what it promises is document 01's receive, for every argument.
+// slots, and beside it the output; own number and time it only reads. It accepts any input, and what it
+// promises is document 01's receive, for every argument. An internal crate: `exports` and `by_value`
+// have the public calls.
 use checking::receive_number;
 use choosing::ready;
 use handing::hand;

@@ -1,6 +1,6 @@
 // Settling: while some waiting message is ready, the chosen one leaves the list and is handed. An
-// internal crate: its functions ask their callers for slots that hold readable frames and for room, and
-// the calls of a panel, which refuse anything else, give them.
+// internal crate. Preconditions: slots that hold readable frames, and room in the output; the calls of a
+// panel refuse anything else.
 use choosing::choice;
 use handing::hand;
 use slots::kept_frame;

@@ -1,5 +1,5 @@
-// Whether slots hold readable frames, the last thing that refusal 26 asks of a record. An internal
-// crate: its functions ask their callers for the bytes of slots.
+// Whether slots hold readable frames, the last thing that refusal 26 looks at. An internal crate.
+// Precondition: the bytes of slots.
 use numbers::number_at;
 ghost use mathlib.Core.Path.{_≡_};
 ghost use Prim.Native.Nat.{_≤_};
@@ -15,7 +15,7 @@ const LENGTH_UNIT: u64 = 0x1000000000000;
 
 const MARK_AND_VERSION: u64 = 0x4452590001 * 4;
 
-// Whether a slot, here with those behind it, holds a readable frame. It is what `frame_check` asks, in
+// Whether a slot, here with those behind it, holds a readable frame. It is the test of `frame_check`, in
 // another form for speed: the first eight bytes are one number, and since a slot has room for 64
 // entries, the length is compared last.
 fn holds_frame(slot: &[u8]) -> bool

@@ -1,6 +1,5 @@
-// What changes slots: a frame is put into one, and frames move up to the first. An internal crate: its
-// functions ask their callers for slots, for room and for readable frames, and the calls of a panel
-// give them.
+// What changes slots: a frame is put into one, and frames move up to the first. An internal crate.
+// Preconditions: slots, room and readable frames, which the calls of a panel have.
 use numbers::number_at;
 use numbers::put_bytes;
 use numbers::put_number;

@@ -1,7 +1,6 @@
 // The waiting list as it lies in a panel's record, and what is read there: 32 slots, each with the
-// length of a frame in 16 bits and then the frame. An internal crate: its functions ask their callers
-// for slots that hold readable frames, and the calls of a panel, which refuse any other record, give
-// them.
+// length of a frame in 16 bits and then the frame. An internal crate. Precondition: slots that
+// hold readable frames; the calls of a panel refuse any other record.
 use numbers::number_at;
 ghost use mathlib.Core.Path.{_≡_};
 ghost use mathlib.Core.Bool.{_&&_};

@@ -1,5 +1,5 @@
 // Text put into a buffer: words, decimal and hexadecimal numbers. Each function gives the place behind
-// what it has put. An internal crate: its functions ask their callers for room.
+// what it has put. An internal crate. Precondition: room in the buffer.
 use numbers::number_at;
 use numbers::put_bytes;
 ghost use mathlib.Core.Path.{_≡_};

@@ -1,4 +1,5 @@
-// Writing a frame of version 1 into a lent buffer. `write` asks nothing of its caller.
+// Writing a frame of version 1 into a lent buffer. `write` accepts any input; 0 is its answer where no
+// frame is written, which is no number of document 01. An internal crate: a send writes the frames.
 use numbers::put_bytes;
 use numbers::put_number;
 ghost use mathlib.Core.Path.{_≡_};

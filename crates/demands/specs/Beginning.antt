@@ -14,8 +14,8 @@ use Rattle.panel.proofs.panel_fresh.Kinds as by-value
 use Rattle.panel.proofs.panel_fresh.Reads as by-value-reads
 
 -- in place: the record in the lent parts as the call ends
-abbrev pub FreshInPlace : Type 0
-FreshInPlace =
+abbrev pub BeginsInPlace : Type 0
+BeginsInPlace =
     (κs : Lfts 7) (given : Dens κs in-place.ps) (answer : resT in-place.r κs .Denot) (ended : AtExit (endedOf 7 in-place.ps in-place.r) κs)
     → in-place-reads.Learnt κs given answer ended
     → given .0 ≤ 63
@@ -24,8 +24,8 @@ FreshInPlace =
     ≡ fresh (given .0)
 
 -- by value: that of the struct in the answer
-abbrev pub FreshByValue : Type 0
-FreshByValue =
+abbrev pub BeginsByValue : Type 0
+BeginsByValue =
     (κs : Lfts 0) (given : Dens κs by-value.ps) (answer : resT by-value.r κs .Denot) (ended : AtExit (endedOf 0 by-value.ps by-value.r) κs)
     → by-value-reads.Learnt κs given answer ended
     → given .0 ≤ 63

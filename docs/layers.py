@@ -17,20 +17,16 @@ from drawing import HARD, INK, LINE, QUIET, RED, Drawing, text_width, wrap
 
 ROOT = Path(__file__).resolve().parent.parent
 PICTURE = ROOT / "docs" / "layers.svg"
-WIDTH, MARGIN, GAP = 1360, 24, 14
+WIDTH, MARGIN, GAP = 1520, 24, 14
 CODE, PROMISES, DEFINITIONS, PROOF = "#123a63", "#7c9cc0", "#d08a1d", "#c9cdd2"
 GROUPS = {"theory": ("Theory: no code", "#fbf3df"), "module": ("The module", "#e3edf7"),
           "tests": ("Test programs", "#f2f2f2")}
 OUTSIDE = "not proved: radio, C firmware, the compiler, C's read and write"
 PROVED = "proved: from the bytes to the order of each log, after every list of calls"
-LEGEND = ("A crate stands on those of lower layers; the number at the left is its layer. Bars: lines without blank and comment lines, all to one scale; "
-          "code + its promises (`requires`, `ensures`, `ghost use`), definitions (`specs/`), proof (`proofs/`). A must-fail edit is a wrong version that the "
-          "prover has to refuse. Steps are those of the way of a frame, below.")
-NOTE = ("The numbers in red are document 01's refusals. The third call, `clock_in_place` (26, 10, 25), sets the time, drops what has lapsed (`alive`), and "
-        "settles as in steps 10 to 12.")
-NAMES = 96  # the width of the lanes' names
-LABEL, NUMBER, BLOCK = 62, 45, 196  # the width of the words before a bar, of the number behind it, and of all bars of a box
-LEAST = 224  # the width of a group at least: that of the words of its sum
+NOTE = ("The third call, `clock_in_place` (refused with 26, 10, 25), sets the time, drops what has lapsed (`alive`), and settles as in steps 10 to 12.")
+LABEL = text_width("definitions", 11) + 6  # the width of the words before a bar
+BLOCK = 230  # the width of all bars of a box, with words and numbers
+NUMBERS = text_width("00", 13, True) + 10  # the width of the layers' numbers
 
 def stop(message):
     sys.exit(f"docs/layers.py: {message}")  # exit code 1
@@ -83,7 +79,7 @@ def place(crate, row):
         if words in said:
             crate.group, crate.kind = group, kind
             return
-    stop(f"crate {crate.name} has no place in the picture: its row of README.md's Map says neither public, internal, no code, "
+    stop(f"crate {crate.name} has no place in the picture: its row of README.md's Map says neither public, internal, program, no code, "
          "no part of the module nor what it must print")
 
 def lines_of(directory, ending, comment):
@@ -121,6 +117,59 @@ def read_repository():
     return boxes
 
 
+# ---- The legend: what colours, bars, numbers and arrows mean
+
+SAMPLE = 56  # the width of what is explained
+
+def legend_columns(scale):
+    """Four columns, each with its title and its lines: what draws a sample from x and the middle y on, and the words."""
+    box = lambda fill, dashed=False: lambda drawing, x, y: drawing.box(x, y - 7, SAMPLE - 8, 14, fill, dashed=dashed)
+    bar = lambda colour: lambda drawing, x, y: draw_bar(drawing, SAMPLE - 8, colour, x, y, 1)
+    word = lambda text, colour=QUIET, size=11, bold=False: lambda drawing, x, y: drawing.text(x, y + 4, text, size, colour, bold)
+    line = lambda colour, width, arrow=True: lambda drawing, x, y: drawing.path([(x, y), (x + SAMPLE - 8, y)], colour, width, arrow, not arrow)
+    lines = max(number for number in (50, 100, 200, 500, 1000) if number * scale <= SAMPLE - 8 or number == 50)
+
+    def ruler(drawing, x, y):
+        drawing.path([(x, y - 4), (x, y + 4), (x, y), (x + lines * scale, y), (x + lines * scale, y - 4), (x + lines * scale, y + 4)], INK, 1)
+
+    return [("Boxes: crates", [(box(GROUPS["module"][1]), "of the module. `public`: it accepts any input; `internal`: it has preconditions"),
+                               (box(GROUPS["module"][1], True), "a program, proved only to be safe and to end"),
+                               (box(GROUPS["theory"][1]), "definitions and proofs, no code"),
+                               (box(GROUPS["tests"][1]), "a test program")]),
+            ("Bars: lines, without blank and comment lines", [(bar(CODE), "code; behind the bar: code + promises"),
+                                                              (bar(PROMISES), "promises of the code (`requires`, `ensures`, `ghost use`)"),
+                                                              (bar(DEFINITIONS), "definitions (`specs/`)"), (bar(PROOF), "proof (`proofs/`)"),
+                                                              (ruler, f"{lines:,} lines; all bars have this scale")]),
+            ("Words and numbers", [(word("7", QUIET, 13, True), "left of the boxes: the layer. A crate stands on crates of lower layers"),
+                                   (word("on .."), "the crates that it stands on directly"),
+                                   (word(".. edits"), "must-fail edits: wrong versions of the crate, which the prover has to refuse"),
+                                   (word("steps .."), "its steps in the ways below")]),
+            ("The ways below", [(lambda drawing, x, y: draw_mark(drawing, "4", x + 9, y), "a step, with its function and what it does; a lane for each crate"),
+                                (line(LINE, 2.0), "to the next step"),
+                                (lambda drawing, x, y: draw_number(drawing, "1 to 8", x, y), "refusal numbers that the step answers (docs/SPECIFICATION.md)"),
+                                (line(RED, 1.4), "the way of what is refused"),
+                                (line(INK, 2.5, False), "here the proof of what is done ends: it holds below the line")])]
+
+def draw_legend(drawing, y, scale):
+    """Returns the y below it."""
+    columns, frame = legend_columns(scale), len(drawing.parts)
+    each = (WIDTH - 2 * MARGIN - 24) / len(columns)
+    bottom = y
+    for number, (title, rows) in enumerate(columns):
+        x, at = MARGIN + 16 + number * each, y + 22
+        drawing.text(x, at, title, 12, INK, True)
+        at += 20
+        for sample, words in rows:
+            sample(drawing, x, at - 4)
+            at = drawing.paragraph(x + SAMPLE, at, words, each - SAMPLE - 20) + 7
+        bottom = max(bottom, at)
+    below = Drawing()
+    below.box(MARGIN, y, WIDTH - 2 * MARGIN, bottom - y, "white")
+    drawing.parts[frame:frame] = below.parts
+    drawing.upright.clear()
+    return bottom
+
+
 # ---- The layers: a box for each crate
 
 def draw_proof_line(drawing, points, x):
@@ -133,17 +182,29 @@ def draw_proof_line(drawing, points, x):
 def edits_words(sizes):
     return f"{sizes['edits']}{HARD}must-fail{HARD}edit{'' if sizes['edits'] == 1 else 's'}"
 
-def draw_bars(drawing, sizes, x, y, scale):
-    """Code with its promises, definitions, proof: a bar and a number each. Returns the y below them."""
+def sum_words(sizes):
+    return f"Sum: {edits_words(sizes)}, and lines of"
+
+def bar_rows(sizes):
+    """Code with its promises, definitions, proof: the word, the pieces of the bar, and the numbers behind it."""
     rows = [("code", [(sizes["code"], CODE), (sizes["promises"], PROMISES)]), ("definitions", [(sizes["definitions"], DEFINITIONS)]),
             ("proof", [(sizes["proof"], PROOF)])]
-    for number, (label, pieces) in enumerate(rows):
+    return [(label, pieces, " + ".join(f"{lines:,}" for lines, _ in pieces if lines) or "0") for label, pieces in rows]
+
+def draw_bar(drawing, lines, colour, x, y, scale):
+    """A piece of a bar. Returns its right end."""
+    drawing.parts.append(f'<rect x="{x:.1f}" y="{y - 4:.1f}" width="{lines * scale:.1f}" height="8" fill="{colour}"/>')
+    return x + lines * scale
+
+def draw_bars(drawing, sizes, x, y, scale):
+    """A bar and a number for each row. Returns the y below them."""
+    rows = bar_rows(sizes)
+    for number, (label, pieces, words) in enumerate(rows):
         middle, end = y + 13 * number, x + LABEL
         drawing.text(x, middle + 4, label, 11, QUIET)
         for lines, colour in pieces:
-            drawing.parts.append(f'<rect x="{end:.1f}" y="{middle - 4:.1f}" width="{lines * scale:.1f}" height="8" fill="{colour}"/>')
-            end += lines * scale
-        drawing.text(end + 5, middle + 4, " + ".join(f"{lines:,}" for lines, _ in pieces if lines) or "0", 11)
+            end = draw_bar(drawing, lines, colour, end, middle, scale)
+        drawing.text(end + 5, middle + 4, words, 11)
     return y + 13 * len(rows)
 
 def draw_crate(drawing, crate, marks, x, y, width, height, scale):
@@ -153,26 +214,29 @@ def draw_crate(drawing, crate, marks, x, y, width, height, scale):
     unproved = crate.group == "module" and not crate.sizes["promised"]
     drawing.box(x, y, width, height, GROUPS[crate.group][1], dashed=unproved)
     drawing.text(x + 8, y + 17, crate.name, 14, INK, True)
-    drawing.text(x + 16 + text_width(crate.name, 14, True), y + 17, crate.kind, 11, QUIET)
+    beside = 16 + text_width(crate.name, 14, True)
+    fits = beside + text_width(crate.kind, 11) <= words + 8  # else the kind goes below the name
+    drawing.text(x + (beside if fits else 8), y + (17 if fits else 32), crate.kind, 11, QUIET)
     foot = ["proved only to be safe and to end"] * unproved + ["on " + ", ".join(crate.stands_on)] * bool(crate.stands_on)
     foot += [edits_words(crate.sizes)] * bool(crate.sizes["edits"])
     foot += [HARD.join(["steps"] + marks[crate.name])] if crate.name in marks else []
-    bottom = drawing.paragraph(x + 8, y + 33, crate.holds, words)
+    bottom = drawing.paragraph(x + 8, y + (33 if fits else 47), crate.holds, words)
     bottom = drawing.paragraph(x + 8, bottom, f"{HARD}· ".join(foot), words, 11, QUIET)
     if crate.runs:
         return bottom
     bars = draw_bars(drawing, crate.sizes, x + width - BLOCK, y + 20, scale) if wide else draw_bars(drawing, crate.sizes, x + 8, bottom, scale)
     return max(bottom, bars)
 
-def group_places(crates):
-    """The left edge and the width of each group: by how many boxes its fullest layer has, but at least so wide."""
+def group_places(crates, sums):
+    """The left edge and the width of each group: by how many boxes its fullest layer has, but at least that of the words of its sum."""
+    least = max(text_width(sum_words(sizes), 11, True) for sizes in sums.values())
     count = {group: max(sum(crate.group == group and crate.layer == other.layer for crate in crates) for other in crates) for group in GROUPS}
-    room = WIDTH - 2 * MARGIN - 20 - 2 * 2 * GAP
-    narrow = [group for group in GROUPS if room * count[group] < LEAST * sum(count.values())]
-    unit = (room - LEAST * len(narrow)) / sum(count[group] for group in GROUPS if group not in narrow)
-    places, x = {}, MARGIN + 20
+    room = WIDTH - 2 * MARGIN - NUMBERS - 2 * 2 * GAP
+    narrow = [group for group in GROUPS if room * count[group] < least * sum(count.values())]
+    unit = (room - least * len(narrow)) / sum(count[group] for group in GROUPS if group not in narrow)
+    places, x = {}, MARGIN + NUMBERS
     for group in GROUPS:
-        places[group] = (x, LEAST if group in narrow else unit * count[group])
+        places[group] = (x, least if group in narrow else unit * count[group])
         x += places[group][1] + 2 * GAP
     return places
 
@@ -185,13 +249,11 @@ def layer_boxes(crates, places):
         boxes += [(crate, x + number * (each + GAP), each) for number, crate in enumerate(here)]
     return boxes
 
-def longest(sizes):
-    return max(sizes["proof"], sizes["code"] + sizes["promises"], sizes["definitions"], 1)
-
 def bars_scale(layers, places, sums):
-    """The width of a line, so that the bars of each box and of each sum have room."""
-    boxes = [(min(width - 16, BLOCK) if width > 2 * BLOCK else width - 16, crate.sizes) for layer in layers for crate, _, width in layer_boxes(layer, places)]
-    return min((width - LABEL - NUMBER) / longest(sizes) for width, sizes in boxes + [(places[group][1], sums[group]) for group in GROUPS])
+    """The width of a line, so that the bars of each box and of each sum, with the numbers behind them, have room."""
+    boxes = [(min(width - 16, BLOCK - 8) if width > 2 * BLOCK else width - 16, crate.sizes) for layer in layers for crate, _, width in layer_boxes(layer, places)]
+    return min((width - LABEL - 5 - text_width(words, 11)) / max(sum(lines for lines, _ in pieces), 1)
+               for width, sizes in boxes + [(places[group][1], sums[group]) for group in GROUPS] for _, pieces, words in bar_rows(sizes))
 
 def draw_layer(drawing, crates, marks, places, y, scale):
     """The boxes of one layer. Returns the y below them."""
@@ -203,12 +265,13 @@ def draw_layer(drawing, crates, marks, places, y, scale):
     return y + height
 
 def draw_layers(drawing, crates, steps, y):
-    """All layers, the top one first, the line where the proof ends, and the sums."""
-    places = group_places(crates)
+    """The legend, all layers, the top one first, the line where the proof ends, and the sums."""
+    sums = {group: {key: sum(crate.sizes[key] for crate in crates if crate.group == group) for key in crates[0].sizes} for group in GROUPS}
+    places = group_places(crates, sums)
     layers = [[crate for crate in crates if crate.layer == layer] for layer in range(max(crate.layer for crate in crates), -1, -1)]
     marks = {step.crate: [other.mark for other in steps if other.crate == step.crate] for step in steps if step.crate}
-    sums = {group: {key: sum(crate.sizes[key] for crate in crates if crate.group == group) for key in crates[0].sizes} for group in GROUPS}
     scale = bars_scale(layers, places, sums)
+    y = draw_legend(drawing, y, scale) + 34
     for group, (x, width) in places.items():
         drawing.text(x, y, GROUPS[group][0], 14, INK, True)
     proved = max(crate.layer for crate in crates if crate.group == "module" and crate.sizes["promised"])
@@ -220,7 +283,7 @@ def draw_layers(drawing, crates, steps, y):
     edge, (x, width) = places["tests"][0] - GAP, places["module"]
     draw_proof_line(drawing, [(MARGIN, line), (edge, line), (edge, y + 66)], x + width / 2)
     for group, (x, width) in places.items():
-        drawing.text(x, y + 14, f"Sum: {edits_words(sums[group])}, and lines of", 11, INK, True)
+        drawing.text(x, y + 14, sum_words(sums[group]), 11, INK, True)
         draw_bars(drawing, sums[group], x, y + 29, scale)
     return y + 66
 
@@ -252,13 +315,16 @@ def read_ways():
 
 def column_places(steps):
     """The x of each column: room for its function names, and for its words in as few lines as the picture's width allows."""
-    room = WIDTH - 2 * MARGIN - NAMES
-    need = lambda step, lines: max(58, text_width(step.function, 11, True) + 16, text_width(step.words, 11) / lines * 1.2 + 16)
+    names = 8 + max(text_width(step.crate or "outside", 13, True) for step in steps) + 22  # the width of the lanes' names
+    room = WIDTH - 2 * MARGIN - names
+    wide = lambda step: max(map(lambda word: text_width(word, 11), step.words.split()))
+    need = lambda step, lines: max(58, 30 + number_width(step.refusals) if step.refusals else 0, text_width(step.function, 11, True) + 24, wide(step) + 16,
+                                   text_width(step.words, 11) / lines * 1.2 + 16)
     for lines in range(2, 9):
         needed = [max(need(step, lines) for step in steps if step.column == column) for column in range(max(step.column for step in steps) + 1)]
         spare = (room - sum(needed)) / len(needed)
         if spare >= 0:
-            return [MARGIN + NAMES + sum(needed[:column]) + spare * column for column in range(len(needed) + 1)]
+            return [MARGIN + names + sum(needed[:column]) + spare * column for column in range(len(needed) + 1)]
     stop("the steps of a way need more than the picture's width")
 
 def lane_places(drawing, steps, crates, columns, y):
@@ -266,11 +332,12 @@ def lane_places(drawing, steps, crates, columns, y):
     room = lambda step: 13 * len(wrap(step.words, columns[step.column + 1] - columns[step.column] - 12, 11))
     promised = {crate.name: crate.sizes["promised"] for crate in sorted(crates, key=lambda crate: -crate.layer)}
     lanes, line = {}, None
+    again = {mark for step in steps for mark, *how in step.before if how == ["again"]}
     for name in [""] + [name for name in promised if any(step.crate == name for step in steps)]:
         if name and promised[name] and line is None:
             line, y = y + 20, y + 42
         here = [step for step in steps if step.crate == name]
-        above = 0 if not name else 36 if any(step.refusals or "again" in sum(step.before, []) for step in here) else 18  # for what stands above the line
+        above = 0 if not name else 36 if any(step.refusals or step.mark in again for step in here) else 18  # for what stands above the line
         height = max(map(room, here)) + (above + 34 if name else 18)
         drawing.box(MARGIN, y, WIDTH - 2 * MARGIN, height - 4, GROUPS["module"][1] if name else "white", "none" if name else "#8a8a8a")
         drawing.text(MARGIN + 8, y + above + 4 if name else y + 18, name or "outside", 13, INK, True)
@@ -278,14 +345,25 @@ def lane_places(drawing, steps, crates, columns, y):
         y += height
     return lanes, line, y
 
+def draw_mark(drawing, mark, x, y):
+    drawing.parts.append(f'<circle cx="{x:.1f}" cy="{y:.1f}" r="9" fill="{LINE}"/>')
+    drawing.text(x, y + 4, mark, 11, "white", True, "middle")
+
+def number_width(numbers):
+    return text_width(numbers, 11, True) + 10
+
+def draw_number(drawing, numbers, x, y):
+    """Refusal numbers, from x on, around the middle y."""
+    drawing.box(x, y - 8, number_width(numbers), 16, "white", RED, round=8)
+    drawing.text(x + number_width(numbers) / 2, y + 4, numbers, 11, RED, True, "middle")
+
 def draw_step(drawing, step, columns, y):
     """A step outside is its words; any other a mark with its function, words and refusal numbers."""
     x, width = columns[step.column], columns[step.column + 1] - columns[step.column] - 12
     if not step.crate:
         drawing.paragraph(x - 4, y + 9 - 13 * len(wrap(step.words, width, 11)), step.words, width)
         return
-    drawing.parts.append(f'<circle cx="{x:.1f}" cy="{y:.1f}" r="9" fill="{LINE}"/>')
-    drawing.text(x, y + 4, step.mark, 11, "white", True, "middle")
+    draw_mark(drawing, step.mark, x, y)
     drawing.text(x + 7, y + 20, step.function, 11, INK, True)
     drawing.paragraph(x + 7, y + 33, step.words, width)
 
@@ -293,8 +371,9 @@ def draw_line(drawing, before, step, how, columns, lanes):
     """The line from one step to the next: along the lane and then up or down, or the other way round."""
     (x, y), (end_x, end_y) = (columns[before.column], lanes[before.crate]), (columns[step.column], lanes[step.crate])
     if how == "again":
-        drawing.path([(x, y - 9), (x, y - 19), (end_x, y - 19), (end_x, y - 9)], arrow=True)
-        drawing.text(end_x, y - 24, "while one is ready", 11, LINE)
+        top = min(y, end_y) - 19
+        drawing.path([(x, y - 9), (x, top), (end_x, top), (end_x, end_y - 9)], arrow=True)
+        drawing.text(end_x, top - 5, "while one is ready", 11, LINE)
         return
     corner = (x, end_y) if how == "down" else (end_x, y)
     last = corner if corner != (end_x, end_y) else (x, y)
@@ -306,13 +385,12 @@ def draw_line(drawing, before, step, how, columns, lanes):
 def draw_refusals(drawing, steps, columns, lanes):
     """The refusal numbers where they arise, and their line out."""
     refusing = [step for step in steps if step.refusals]
-    places = [columns[step.column] + 14 + text_width(step.refusals, 11, True) / 2 + 5 for step in refusing]
+    places = [columns[step.column] + 14 + number_width(step.refusals) / 2 for step in refusing]
     joined = min(lanes[step.crate] for step in refusing) - 28
     for step, x in zip(refusing, places):
-        half, y = x - columns[step.column] - 14, lanes[step.crate]
+        y = lanes[step.crate]
         drawing.path([(x, y - 20), (x, joined), (places[-1], joined)], RED, 1.4)
-        drawing.box(x - half, y - 20, 2 * half, 16, "white", RED, round=8)
-        drawing.text(x, y - 8, step.refusals, 11, RED, True, "middle")
+        draw_number(drawing, step.refusals, columns[step.column] + 14, y - 12)
     drawing.path([(places[-1], joined), (places[-1], lanes[""])], RED, 1.4, arrow=True)
 
 def draw_way(drawing, title, steps, crates, y):
@@ -338,8 +416,7 @@ def picture():
     crates, drawing = read_repository(), Drawing()
     ways = read_ways()
     drawing.text(MARGIN, 40, "Message module of the dryer panel: what stands on what, and the way of a frame", 20, INK, True)
-    y = drawing.paragraph(MARGIN, 62, LEGEND, WIDTH - 2 * MARGIN, 12) + 18
-    y = draw_layers(drawing, crates, [step for _, steps in ways for step in steps], y)
+    y = draw_layers(drawing, crates, [step for _, steps in ways for step in steps], 58)
     for title, steps in ways:
         y = draw_way(drawing, title, steps, crates, y + 44)
     y = drawing.paragraph(MARGIN, y + 18, NOTE, WIDTH - 2 * MARGIN, 12)

@@ -132,7 +132,7 @@ def legend_columns(scale):
     def ruler(drawing, x, y):
         drawing.path([(x, y - 4), (x, y + 4), (x, y), (x + lines * scale, y), (x + lines * scale, y - 4), (x + lines * scale, y + 4)], INK, 1)
 
-    return [("Boxes: crates", [(box(GROUPS["module"][1]), "of the module. `public`: it accepts any input; `internal`: it has preconditions"),
+    return [("Boxes: crates", [(box(GROUPS["module"][1]), "of the module. `public`: its functions are public calls; `internal`: crates above it call it"),
                                (box(GROUPS["module"][1], True), "a program, proved only to be safe and to end"),
                                (box(GROUPS["theory"][1]), "definitions and proofs, no code"),
                                (box(GROUPS["tests"][1]), "a test program")]),

@@ -7,7 +7,8 @@
  * its cause waits in the record. panel_log_record reads a log, panel_bundle_next a bundle of
  * frames, and panel_frame_check looks at the bytes of a frame alone.
  *
- * Example, a whole program (cc program.c -lpanel). It prints "3 1200 OK" and "21 bytes to pass on".
+ * Example, a whole program. It prints "3 1200 OK" and "21 bytes to pass on". Compile it with
+ * cc program.c $(pkg-config --cflags --libs panel)   (-lpanel alone may find ncurses' libpanel).
  *
  *     #include <panel.h>
  *     #include <stdio.h>

@@ -1,23 +1,23 @@
 -- The demands, kept by the code. Assumes nothing.
 use mathlib.Core.Path.{_≡_, _∙_}
 use mathlib.Core.Bool.{true}
-use mathlib.Core.Logic.{_⊎_, _≢_}
+use mathlib.Core.Logic.{_≢_}
 use mathlib.Core.List.{List, map}
 use Prim.Native.Nat.{ℕ}
 use native.Mathlib.Omega.{arith}
 use Rattle.numbers.specs.Numbers.{Bytes}
 use Rattle.frame.specs.Message.{Message}
 use Rattle.frame.specs.Frame.{frame}
-use Rattle.frame.specs.Reading.{message, reading}
+use Rattle.frame.specs.Reading.{message, refusal, reading}
 use Rattle.frame.specs.Readable.{readable}
 use Rattle.frame.proofs.Theorems.{reading-frame, frame-reading}
 use Rattle.rules.specs.Sizes.{width}
 use Rattle.rules.specs.Panel.{Panel}
-use Rattle.rules.specs.Refusals.{isRefusal}
+use Rattle.rules.specs.Refusals.{Listed, freshNumber}
 use Rattle.rules.specs.Results.{Call, outputOf, bufferOf, refused, defined}
 use Rattle.rules.specs.Lists.{Lawful}
 use Rattle.rules.specs.Demand3.{Demand3}
-use Rattle.rules.proofs.Theorems.{demand-3, number-listed, refusal-unchanged}
+use Rattle.rules.proofs.Theorems.{demand-3, number-listed, reading-listed, fresh-listed, refusal-unchanged}
 use Rattle.exports.proofs.Fresh.{freshRecord-within}
 use Rattle.demands.specs.Runs.{Run, madeOf}
 use Rattle.demands.specs.Beginning.{BeginsInPlace, BeginsByValue}
@@ -29,7 +29,9 @@ pub record Demands (M : Type 1) : Type 2 where
   -- The code: all public calls, for all arguments.
   pub every-call : Calls M
   -- Demand 1: the answer is a result or one of the numbers in document 01; a refusal gives back the record as it was and alters no byte.
-  pub numbers : (p : Panel) (call : Call) → (defined p call .number ≡ 0) ⊎ (isRefusal (defined p call .number) ≡ true)
+  pub numbers : (p : Panel) (call : Call) → Listed (defined p call .number)
+  pub frame-numbers : (bytes : List ℕ) → Listed (refusal width bytes)
+  pub fresh-numbers : (own : ℕ) → Listed (freshNumber own)
   pub refusals : (p : Panel) (call : Call) → defined p call .number ≢ 0
       → defined p call ≡ refused p (outputOf call) (bufferOf call) (defined p call .number)
   -- Demand 2: a written frame reads back as its message, and bytes that read as a message are the very bytes written for it.
@@ -47,6 +49,8 @@ demands =
     record {
       every-call = calls;
       numbers = number-listed;
+      frame-numbers = reading-listed;
+      fresh-numbers = fresh-listed;
       refusals = refusal-unchanged;
       written-reads = λ m e. reading-frame width m (omega arith, omega arith) e;
       read-written = λ bytes m b e. frame-reading width bytes m b e;

@@ -4,7 +4,7 @@ use native.Mathlib.Decide.{decLt}
 use native.Mathlib.Omega.{arith}
 use mathlib.Core.Path.{_≡_, refl, ap, _∙_}
 use mathlib.Core.Logic.{_⊎_, inl, inr, ⊎-elim, by-cases, _↔_, _≢_}
-use mathlib.Core.Bool.{true, false, _||_}
+use mathlib.Core.Bool.{Bool, true, false, _||_}
 use mathlib.Core.List.{List, [], _∷_}
 use lib.ListN.{length, getD, take}
 use lib.Dec.{eqb, ltb}
@@ -13,8 +13,9 @@ use Rattle.numbers.specs.Numbers.{Bytes}
 use Rattle.numbers.proofs.Over.{length-over, take-over}
 use Rattle.frame.specs.Message.{Message}
 use Rattle.frame.specs.Frame.{frame}
-use Rattle.frame.specs.Reading.{message, reading}
-use Rattle.frame.proofs.FirstOf.{firstOf-each}
+use Rattle.frame.specs.Reading.{message, checks, refusal, reading}
+use Rattle.frame.specs.Refusal.{firstOf}
+use Rattle.frame.proofs.FirstOf.{eachNumber, firstOf-each}
 use Rattle.frame.proofs.Theorems.{reading-frame}
 use Rattle.frame.proofs.Readable.{readable-true}
 use Rattle.rules.specs.Sizes.{width}
@@ -22,7 +23,7 @@ use Rattle.rules.specs.Panel.{Name, Panel, ready, fresh}
 use Rattle.rules.specs.Handing.{logRecords}
 use Rattle.rules.specs.Settling.{settle}
 use Rattle.rules.specs.Calls.{newMessage}
-use Rattle.rules.specs.Refusals.{isRefusal, broken, freshRecord}
+use Rattle.rules.specs.Refusals.{isRefusal, Listed, broken, freshNumber, freshRecord}
 use Rattle.rules.specs.Results.{Call, outputOf, bufferOf, checksOf, effectOf, frameOf, Result, refused, done, defined, Promised, send}
 use Rattle.rules.specs.Lists.{_isIn_, Made, recordAt, logAt, Lawful, AllPromised, ran}
 use Rattle.rules.specs.Demand3.{Demand3}
@@ -98,12 +99,23 @@ settle-done p = settle-settles p .settled
 
 -- ---- one call, on any record
 
--- The answer is 0 or one of the numbers of document 01.
-pub number-listed : (p : Panel) (call : Call) → (defined p call .number ≡ 0) ⊎ (isRefusal (defined p call .number) ≡ true)
-number-listed p call =
-    ⊎-elim (λ e. inl (eqb-true (defined p call .number) 0 e)) (λ e. inr e)
-    (or-either (eqb (defined p call .number) 0) (isRefusal (defined p call .number))
-    (rw (defined-number p call) (firstOf-each (λ n. eqb n 0 || isRefusal n) (checksOf p call) refl (checks-listed p call))))
+-- the number of the first check that applies is listed where each is
+listed : (table : List (Bool × ℕ)) → eachNumber (λ n. eqb n 0 || isRefusal n) table ≡ true → Listed (firstOf table)
+listed table each =
+    ⊎-elim (λ e. inl (eqb-true (firstOf table) 0 e)) (λ e. inr e)
+    (or-either (eqb (firstOf table) 0) (isRefusal (firstOf table)) (firstOf-each (λ n. eqb n 0 || isRefusal n) table refl each))
+
+-- The answer is 0 or one of the numbers of document 01: that of a send, receive or clock call, of a frame check or reading, and of fresh.
+pub number-listed : (p : Panel) (call : Call) → Listed (defined p call .number)
+number-listed p call = rw (defined-number p call) (listed (checksOf p call) (checks-listed p call))
+
+pub reading-listed : (bytes : List ℕ) → Listed (refusal width bytes)
+unfolding eachNumber checks
+reading-listed bytes = listed (checks width bytes) refl
+
+pub fresh-listed : (own : ℕ) → Listed (freshNumber own)
+unfolding eachNumber freshNumber
+fresh-listed own = listed ((ltb 63 own, 11) ∷ []) refl
 
 -- A refusal gives back the record as it was and alters no byte of a lent buffer; every count and length is 0.
 pub refusal-unchanged : (p : Panel) (call : Call) → defined p call .number ≢ 0

@@ -1,5 +1,7 @@
 -- Document 01, "Turned down because of the input", "Turned down because of the state", and their order.
 use Prim.Native.Nat.{ℕ, _+_}
+use mathlib.Core.Path.{_≡_}
+use mathlib.Core.Logic.{_⊎_}
 use mathlib.Core.Bool.{Bool, true, false, cond, not, _&&_, _||_}
 use mathlib.Core.List.{List, [], _∷_, _++_}
 use lib.ListN.{length, getD}
@@ -82,6 +84,10 @@ clockChecks p time output =
     ∷ (ltb time (p .time), 25)  -- the clock reading is below the panel's time
     ∷ []
 
--- the numbers of the two lists that the three calls can answer
+-- the numbers of the two lists: 1 to 11, and 20 to 26
 abbrev pub isRefusal : ℕ → Bool
-isRefusal n = leb 1 n && leb n 10 || leb 20 n && leb n 26
+isRefusal n = leb 1 n && leb n 11 || leb 20 n && leb n 26
+
+-- what a call may answer: 0, or one of these numbers
+abbrev pub Listed : ℕ → Type 0
+Listed n = (n ≡ 0) ⊎ (isRefusal n ≡ true)

@@ -1,17 +1,19 @@
--- The steps of a bundle, one law for each case; where a frame found lies; and what the step says as C has it.
-use mathlib.Core.Path.{_≡_, refl, sym, subst}
+-- The steps of a bundle, one law for each case; where a frame found lies; and what a reader gives of the step as C has it.
+use mathlib.Core.Path.{_≡_, refl, sym, ap, _∙_, subst}
 use mathlib.Core.Bool.{Bool, true, false, cond}
 use mathlib.Core.List.{List}
 use Prim.Native.Nat.{ℕ, _+_, _≤_, _<_}
 use native.Mathlib.Omega.{arith}
 use lib.Dec.{ltb, eqb}
 use lib.ListN.{length, take, drop}
+use denote.Ref.{RefT, now}
 use borrow.Author.Tests.{ltb-false, lt-ltb, le-ltb, eq-eqb, ne-eqb}
 use Rattle.numbers.specs.Numbers.{numberAt}
 use Rattle.bundle.specs.declared.Step.{Step}
 use Rattle.bundle.specs.declared.Step.the-variants.{Frame, End, Broken}
 use Rattle.bundle.specs.declared.BundleStep.{BundleStep}
-use Rattle.bundle.specs.Bundle.{stepAt, partOf, placeAfter, startOf, answerOf}
+use Rattle.bundle.specs.declared.Reader.{Reader}
+use Rattle.bundle.specs.Bundle.{stepAt, partOf, frameAt, answerOf, Part, Gives}
 
 module _ (bundle : List ℕ) (place : ℕ) where
   pub step-past : length bundle < place → stepAt bundle place ≡ Broken
@@ -81,21 +83,34 @@ step-found bundle place s l n e =
 
 -- ---- the step as C has it
 
--- its fields give the part, within the bundle, and the place after it
-pub record Answered (bundle : List ℕ) (place : ℕ) (step : Step) (answer : BundleStep) : Type 0 where
-  pub starts : answer .start ≡ startOf step
-  pub part : take (answer .length) (drop (answer .start) bundle) ≡ partOf bundle step
+-- it names the part, within the bundle
+record Named (bundle : List ℕ) (place : ℕ) (answer : BundleStep) : Type 0 where
+  pub part : take (answer .length) (drop (answer .start) bundle) ≡ frameAt bundle place
   pub within : answer .start + answer .length ≤ length bundle
-  pub after : answer .next ≡ placeAfter step place
 
-answer-of : (bundle : List ℕ) (place : ℕ) (step : Step) → stepAt bundle place ≡ step → Answered bundle place step (answerOf step place)
-answer-of bundle place (Frame start size next) e =
+answer-names : (bundle : List ℕ) (place : ℕ) (step : Step) → stepAt bundle place ≡ step → Named bundle place (answerOf step place)
+answer-names bundle place (Frame start size next) e =
     let found = step-found bundle place start size next e in
-    record { starts = refl; part = refl; within = omega (arith, found .ends, found .within); after = refl }
-answer-of bundle place End e = record { starts = refl; part = refl; within = omega arith; after = refl }
-answer-of bundle place Broken e = record { starts = refl; part = refl; within = omega arith; after = refl }
+    record { part = ap (partOf bundle) (sym e); within = omega (arith, found .ends, found .within) }
+answer-names bundle place End e = record { part = ap (partOf bundle) (sym e); within = omega arith }
+answer-names bundle place Broken e = record { part = ap (partOf bundle) (sym e); within = omega arith }
 
-pub answered : (bundle : List ℕ) (place : ℕ) (answer : BundleStep) → answer ≡ answerOf (stepAt bundle place) place
-    → Answered bundle place (stepAt bundle place) answer
-answered bundle place answer e =
-    subst (λ (a : BundleStep). Answered bundle place (stepAt bundle place) a) (sym e) (answer-of bundle place (stepAt bundle place) refl)
+module _ (reader : Reader) (answer : BundleStep) (is : answer ≡ answerOf (stepAt (now (reader .bundle)) (reader .place)) (reader .place)) where
+  named : Named (now (reader .bundle)) (reader .place) answer
+  named = subst (Named (now (reader .bundle)) (reader .place)) (sym is) (answer-names (now (reader .bundle)) (reader .place) _ refl)
+
+  pub part-within : answer .start + answer .length ≤ length (now (reader .bundle))
+  part-within = named .within
+
+  -- what a reader gives is made of the step and of that part
+  pub gives : (part : RefT (List ℕ)) → Part (reader .bundle) (answer .start) (take (answer .length) (drop (answer .start) (now (reader .bundle)))) part
+      → Gives reader (record { kind = answer .kind; part = part; place = answer .next })
+  gives part at = record {
+    kind = ap (λ (a : BundleStep). a .kind) is;
+    part = record {
+      bytes = at .bytes ∙ named .part;
+      block = at .block;
+      place = at .place ∙ ap (λ (a : BundleStep). a .start + reader .bundle .ptr .1) is;
+    };
+    place = ap (λ (a : BundleStep). a .next) is;
+  }

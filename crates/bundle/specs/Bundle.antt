@@ -10,6 +10,8 @@ use Rattle.numbers.specs.Numbers.{bigEndian, numberAt}
 use Rattle.bundle.specs.declared.Step.{Step}
 use Rattle.bundle.specs.declared.Step.the-variants.{Frame, End, Broken}
 use Rattle.bundle.specs.declared.BundleStep.{BundleStep}
+use Rattle.bundle.specs.declared.Reader.{Reader}
+use Rattle.bundle.specs.declared.NextFrame.{NextFrame}
 
 -- a bundle is a run of frames, each behind its length in 16 bits
 unfoldable pub bundleOf : List (List ℕ) → List ℕ
@@ -48,14 +50,34 @@ startOf Broken = 0
 abbrev pub frameAt : List ℕ → ℕ → List ℕ
 frameAt bundle place = partOf bundle (stepAt bundle place)
 
--- the step as C has it: 0 for a frame, 1 for end, 2 for broken; with end and broken the part is empty and the place stays
-abbrev pub answerOf : Step → ℕ → BundleStep
-answerOf (Frame start size next) place = record { start = start; length = size; next = next; kind = 0 }
-answerOf End place = record { start = 0; length = 0; next = place; kind = 1 }
-answerOf Broken place = record { start = 0; length = 0; next = place; kind = 2 }
+-- which of the three: 0 for a frame, 1 for end, 2 for broken
+abbrev pub kindOf : Step → ℕ
+kindOf (Frame start size next) = 0
+kindOf End = 1
+kindOf Broken = 2
 
--- the frame at a place as a part of the slice: what it holds, in which memory block, and from which place on
-pub record FramePart (bundle : RefT (List ℕ)) (at : ℕ) (part : RefT (List ℕ)) : Type 0 where
-  pub bytes : now part ≡ frameAt (now bundle) at
+-- how many bytes the frame has: with end and broken none
+abbrev pub sizeOf : Step → ℕ
+sizeOf (Frame start size next) = size
+sizeOf End = 0
+sizeOf Broken = 0
+
+-- the step as C has it
+abbrev pub answerOf : Step → ℕ → BundleStep
+answerOf step place = record { start = startOf step; length = sizeOf step; next = placeAfter step place; kind = kindOf step }
+
+-- a part of the slice: what it holds, in which memory block, and from which place on
+pub record Part (bundle : RefT (List ℕ)) (start : ℕ) (held : List ℕ) (part : RefT (List ℕ)) : Type 0 where
+  pub bytes : now part ≡ held
   pub block : part .ptr .0 ≡ bundle .ptr .0
-  pub place : part .ptr .1 ≡ startOf (stepAt (now bundle) at) + bundle .ptr .1
+  pub place : part .ptr .1 ≡ start + bundle .ptr .1
+
+-- the frame at a place as a part of the slice
+abbrev pub FramePart : RefT (List ℕ) → ℕ → RefT (List ℕ) → Type 0
+FramePart bundle place = Part bundle (startOf (stepAt (now bundle) place)) (frameAt (now bundle) place)
+
+-- what a reader gives
+pub record Gives (reader : Reader) (next : NextFrame) : Type 0 where
+  pub kind : next .kind ≡ kindOf (stepAt (now (reader .bundle)) (reader .place))
+  pub part : FramePart (reader .bundle) (reader .place) (next .part)
+  pub place : next .place ≡ placeAfter (stepAt (now (reader .bundle)) (reader .place)) (reader .place)

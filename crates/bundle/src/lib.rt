@@ -4,9 +4,11 @@
 use frame::Fields;
 use numbers::number_at;
 ghost use mathlib.Core.Path.{_≡_};
+ghost use Prim.Native.Nat.{_+_, _≤_};
+ghost use lib.ListN.{length, take, drop};
 ghost use Rattle.frame.specs.Reading.{reading};
 ghost use Rattle.frame.specs.Answer.{fieldsOf};
-ghost use Rattle.bundle.specs.Bundle.{stepAt, placeAfter, frameAt, FramePart, answerOf};
+ghost use Rattle.bundle.specs.Bundle.{stepAt, frameAt, Part, FramePart, Gives, answerOf};
 
 // What stands at a place: a frame, from start on, of so many bytes, and the place behind it; the end;
 // or broken. With end and broken the place stays.
@@ -87,34 +89,26 @@ pub extern "C" fn panel_bundle_step(bundle: &[u8], place: usize) -> BundleStep
     }
 }
 
-// The frame at a place, as the part of the bundle that it occupies; with end and broken the empty
-// part at the bundle's start.
-pub fn part_at(bundle: &[u8], place: usize) -> &[u8]
-    ensures { λ r. ⌜ FramePart (bundle .entry) place r ⌝ }
+// So many bytes of a bundle, from a start on.
+fn cut(bundle: &[u8], start: usize, size: usize) -> &[u8]
+    requires { ⌜ start + size ≤ length (now bundle) ⌝ }
+    ensures { λ r. ⌜ Part (bundle .entry) start (take size (drop start (now (bundle .entry)))) r ⌝ }
 {
-    let step = panel_bundle_step(bundle, place);
-    let start = step.start;
-    &bundle[start..start + step.length]
+    &bundle[start..start + size]
 }
 
-// The place behind the frame at a place; with end and broken it stays.
-pub fn place_after(bundle: &[u8], place: usize) -> usize
-    ensures { λ r. ⌜ r ≡ placeAfter (stepAt (now (bundle .entry)) place) place ⌝ }
-{
-    panel_bundle_step(bundle, place).next
-}
-
-// The reading of the frame at a place: the part in the middle of the bundle is passed to the frame
-// reading.
-pub fn read_at(bundle: &[u8], place: usize) -> Fields
-    ensures { λ r. ⌜ r ≡ fieldsOf (reading 4 (frameAt (now (bundle .entry)) place)) ⌝ }
-{
-    frame::read(part_at(bundle, place))
-}
-
-// The reader: a bundle and a place in it. The functions over it take it apart, and are proved by hand.
+// The reader: a bundle and a place in it. The functions that take or make one are proved by hand.
 pub struct Reader<'a> {
     pub bundle: &'a [u8],
+    pub place: usize,
+}
+
+// What a reader gives: kind 0 is a frame, 1 the end, 2 broken; the frame as the part of the bundle
+// that it occupies, with end and broken the empty part at the bundle's start; and the place behind
+// it, with end and broken the reader's.
+pub struct NextFrame<'a> {
+    pub kind: u8,
+    pub part: &'a [u8],
     pub place: usize,
 }
 
@@ -125,27 +119,29 @@ pub fn new<'a>(bundle: &'a [u8]) -> Reader<'a>
     Reader { bundle, place: 0 }
 }
 
-// What comes next: the step at the reader's place.
-pub fn next<'a>(reader: Reader<'a>) -> Step
-    ensures { λ r. ⌜ r ≡ stepAt (now (reader .entry .bundle)) (reader .entry .place) ⌝ }
+// What comes next. The reader behind it has the same bundle, and the place that is given.
+pub fn next<'a>(reader: Reader<'a>) -> NextFrame<'a>
+    ensures { λ r. ⌜ Gives (reader .entry) r ⌝ }
 {
-    step_at(reader.bundle, reader.place)
-}
-
-// The frame at the reader's place, as the part of the bundle that it occupies.
-pub fn part<'a>(reader: Reader<'a>) -> &'a [u8]
-    ensures { λ r. ⌜ FramePart (reader .entry .bundle) (reader .entry .place) r ⌝ }
-{
-    part_at(reader.bundle, reader.place)
-}
-
-// The reader behind that frame; with end and broken its place stays.
-pub fn after<'a>(reader: Reader<'a>) -> Reader<'a>
-    ensures { λ r. ⌜ (r .bundle ≡ reader .entry .bundle)
-        × (r .place ≡ placeAfter (stepAt (now (reader .entry .bundle)) (reader .entry .place)) (reader .entry .place)) ⌝ }
-{
-    Reader {
-        place: place_after(reader.bundle, reader.place),
-        bundle: reader.bundle,
+    let step = panel_bundle_step(reader.bundle, reader.place);
+    NextFrame {
+        kind: step.kind,
+        part: cut(reader.bundle, step.start, step.length),
+        place: step.next,
     }
+}
+
+// The frame at a place, as a reader there gives it.
+pub fn part_at(bundle: &[u8], place: usize) -> &[u8]
+    ensures { λ r. ⌜ FramePart (bundle .entry) place r ⌝ }
+{
+    next(Reader { bundle, place }).part
+}
+
+// The reading of the frame at a place: the part in the middle of the bundle is passed to the frame
+// reading.
+pub fn read_at(bundle: &[u8], place: usize) -> Fields
+    ensures { λ r. ⌜ r ≡ fieldsOf (reading 4 (frameAt (now (bundle .entry)) place)) ⌝ }
+{
+    frame::read(part_at(bundle, place))
 }

@@ -1,6 +1,6 @@
 // Bundles: a run of frames, each behind its length in 16 bits. The bundle reader keeps the slice and
-// its place, and gives the next frame as a part of the slice, or end, or broken. No public function
-// asks anything of its caller.
+// its place, and gives the next frame as a part of the slice, or end, or broken. Each public
+// function accepts any input.
 use frame::Fields;
 use numbers::number_at;
 ghost use mathlib.Core.Path.{_≡_};

@@ -1,3 +1,4 @@
--- The steps of a listing, and what is shown of the whole.
+-- The steps and the parts of a listing, and what is shown of the whole.
 pub mod Stepping
+pub mod Parts
 pub mod Theorems

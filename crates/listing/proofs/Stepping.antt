@@ -61,7 +61,7 @@ module _ (bundle : List ℕ) (given : Listing) {start size next : ℕ} (frame : 
         further = λ _. omega (arith, found .begins, found .ends);
       }
 
-never : {A : Type 0} {b : Bool} → b ≡ true → b ≡ false → A
+pub never : {A : Type 0} {b : Bool} → b ≡ true → b ≡ false → A
 never on off = let z : _≡_ {A = ℕ} 0 1 = ap (λ (b : Bool). cond b 0 1) (sym on ∙ off) in absurd (omega arith)
 
 -- the last line was put

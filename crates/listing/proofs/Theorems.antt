@@ -1,10 +1,12 @@
--- What is shown of the whole listing: bench cases 3 and 12, and that the steps counted are enough. Assumes nothing.
-use mathlib.Core.Path.{_≡_, refl, ap}
+-- What is shown of the whole listing: bench cases 3 and 12, that the steps counted are enough, and that the parts are together the whole.
+-- Assumes nothing.
+use mathlib.Core.Path.{_≡_, refl, sym, ap, ap₂, _∙_}
 use mathlib.Core.Bool.{Bool, true, false, cond}
-use mathlib.Core.List.{List, [], _∷_, _++_}
+use mathlib.Core.List.{List, [], _∷_, _++_, append-assoc, append-nil}
 use Prim.Native.Nat.{ℕ, zero, suc, _+_, _≤_, _<_}
 use native.Mathlib.Omega.{arith}
-use lib.ListN.{length}
+use borrow.Author.Tests.{le-ltb}
+use lib.ListN.{length, take}
 use Rattle.bundle.specs.declared.Step.{Step}
 use Rattle.bundle.specs.declared.Step.the-variants.{Frame, End, Broken}
 use Rattle.bundle.specs.Bundle.{bundleOf, stepAt}
@@ -15,7 +17,11 @@ use Rattle.rules.proofs.BenchCases.{callsOpened}
 use Rattle.log_records.specs.LogRecords.{logRecordAt, isWhole, fieldsIn, payloadIn}
 use Rattle.text.specs.Text.{ascii, digit, decimalIn, hexadecimal}
 use Rattle.lines.specs.Lines.{item, outcome, frameLine, payloadText, handLine, handLines}
-use Rattle.listing.specs.Listing.{State, received, linesAt, onward, stateAfter, goesOn, linesFrom, listing}
+use Rattle.listing.specs.declared.Listing.{Listing}
+use Rattle.listing.specs.Listing.{State, start, received, linesAt, onward, stateAfter, goesOn, linesFrom, listing}
+use Rattle.listing.specs.Step.{stateOf}
+use Rattle.listing.specs.Part.{linesLeft, Parts}
+use Rattle.listing.specs.Part.Parts.{no-part, one-more}
 
 -- whoever unfolds this unfolds all that a listing is computed by
 opened : Unit {0}
@@ -64,3 +70,24 @@ linesFrom-enough (suc most) bundle s within few =
         let further = onward-place bundle s (stepAt bundle (s .place)) refl on in
         rest (further .1) (omega (arith, further .0))
     go false on rest = refl
+
+-- ---- the parts are together the whole
+
+-- what was put and what is left are the lines from the start on
+parts-left : {bundle parts : List ℕ} {l : Listing} → Parts bundle parts l → parts ++ linesLeft bundle l ≡ linesFrom (suc (length bundle)) bundle start
+unfolding linesLeft
+parts-left {bundle} (no-part begun on) = ap₂ (λ (b : Bool) (s : State). cond b (linesFrom (suc (length bundle)) bundle s) []) on begun
+parts-left {bundle} (one-more {parts} {given} {text} {l} {after} before part) =
+    append-assoc parts (take (l .at) after) (linesLeft bundle l)
+    ∙ ap (λ (rest : List ℕ). parts ++ rest) (sym (part .lines))
+    ∙ parts-left before
+
+-- where nothing is left, the parts put are together the listing
+pub parts-are-listing : {bundle parts : List ℕ} {l : Listing} → length bundle ≤ 65535 → Parts bundle parts l → l .more ≡ false
+    → parts ≡ listing bundle
+unfolding listing linesLeft
+parts-are-listing {bundle} {parts} {l} short put over =
+    sym (append-nil parts)
+    ∙ ap (λ (b : Bool). parts ++ cond b (linesFrom (suc (length bundle)) bundle (stateOf l)) []) (sym over)
+    ∙ parts-left put
+    ∙ ap (λ (b : Bool). cond b (ascii "long\n") (linesFrom (suc (length bundle)) bundle start)) (sym (le-ltb 65535 (length bundle) short))

@@ -15,6 +15,7 @@ ghost use lib.ListN.{length};
 ghost use Rattle.text.specs.Put.{Room};
 ghost use Rattle.listing.specs.Listing.{start as startState};
 ghost use Rattle.listing.specs.Step.{stateOf, Standing, Stepped, Ended};
+ghost use Rattle.listing.specs.Part.{Placed, PartPut};
 
 // Where the listing stands: the panel, the place in the bundle, the frames so far, the place behind
 // the text put so far, and whether it goes on.
@@ -87,4 +88,21 @@ pub fn list_next<'a, 'b>(bundle: &'a [u8], listing: Listing, text: &'b mut [u8])
         Step::End => last(listing, text, b"end\n"),
         Step::Broken => last(listing, text, b"broken\n"),
     }
+}
+
+// Puts a part of the listing from the start of the buffer on: the lines of step after step, while the
+// listing goes on and there is room for a step's lines.
+pub fn list_part<'a, 'b>(bundle: &'a [u8], listing: Listing, text: &'b mut [u8]) -> Listing
+    requires { ⌜ Placed (now bundle) listing ⌝ }
+    ensures { λ r. ⌜ PartPut (now (bundle .entry)) listing (now (text .entry)) r (now (text .exit)) ⌝ }
+{
+    let mut part = listing;
+    part.at = 0;
+    while part.more {
+        if text.len() < part.at + 4096 {
+            return part;
+        }
+        part = list_next(bundle, part, text);
+    }
+    part
 }

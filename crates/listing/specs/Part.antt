@@ -1,0 +1,35 @@
+-- What one part of the listing promises, and the parts one after another.
+use Prim.Native.Nat.{ℕ, suc, _+_, _≤_, _<_}
+use mathlib.Core.Path.{_≡_}
+use mathlib.Core.Bool.{true, cond}
+use mathlib.Core.List.{List, [], _++_}
+use lib.ListN.{length, take}
+use Rattle.text.specs.Put.{Put}
+use Rattle.listing.specs.declared.Listing.{Listing}
+use Rattle.listing.specs.Listing.{start, linesFrom}
+use Rattle.listing.specs.Step.{stateOf}
+
+-- what is left of the listing where it stands
+unfoldable pub linesLeft : List ℕ → Listing → List ℕ
+linesLeft bundle l = cond (l .more) (linesFrom (suc (length bundle)) bundle (stateOf l)) []
+
+-- what a part asks for: a place in the bundle, behind at least as many bytes as frames
+pub record Placed (bundle : List ℕ) (l : Listing) : Type 0 where
+  pub few : l .frames ≤ l .place
+  pub within : l .place ≤ length bundle
+
+-- what it gives: the part put is at the start of the buffer; with what is left then it is what was left before; it ends only where the listing
+-- ends or too little room is left for a step; and where there is room for one, the place moves on
+pub record PartPut (bundle : List ℕ) (given : Listing) (text : List ℕ) (l : Listing) (after : List ℕ) : Type 0 where
+  pub put : Put text 0 (take (l .at) after) after (l .at)
+  pub lines : linesLeft bundle given ≡ take (l .at) after ++ linesLeft bundle l
+  pub full : l .more ≡ true → length text < l .at + 4096
+  pub further : l .more ≡ true → 4096 ≤ length text → given .place < l .place
+  pub placed : Placed bundle l
+
+-- what parts put one after another from the start of the listing on are together, and where the listing stands then
+pub data Parts (bundle : List ℕ) : List ℕ → Listing → Type 0 where
+  no-part : {l : Listing} → stateOf l ≡ start → l .more ≡ true → Parts bundle [] l
+  one-more : {parts : List ℕ} {given : Listing} {text : List ℕ} {l : Listing} {after : List ℕ} → Parts bundle parts given
+      → PartPut bundle given text l after
+      → Parts bundle (parts ++ take (l .at) after) l

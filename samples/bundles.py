@@ -1,10 +1,10 @@
 #!/usr/bin/env python3
-"""Writes the bundles that the runs of "list" are given: those of the crates list and list_case_3, whose runs are part of rt ci
-(harvest.bundle is the first of them), and those of tests/list, which tests/run.sh runs.
+"""Writes the bundles that the runs of "list" are given: that of the crate list, document 01's case 3, whose run is part of rt ci,
+and those of tests/list, which tests/run.sh runs (harvest.bundle is one of them).
 
 usage: samples/bundles.py    (from anywhere; it writes into the repository that it stands in)
 
-What each run must print stands beside it, in crates/NAME/stdout or tests/list/NAME.out, written from document 01 by hand; that of
+What each run must print stands beside it, in crates/list/stdout or tests/list/NAME.out, written from document 01 by hand; that of
 many_lines is written here, as it is the same two lines 3,120 times.
 """
 import os
@@ -69,8 +69,8 @@ MANY_FRAMES = bundle(*(frame(1, deadline) for deadline in MANY), bytes(13))
 MANY_LINES = "".join(f"frame {i} taken\nhand 1 {i} -\n" for i in MANY) + "frame 3121 1\nend\n"
 
 FILES = {
-    "crates/list/stdin": HARVEST,
-    "crates/list_case_3/stdin": bundle(SECOND, FIRST),
+    "crates/list/stdin": bundle(SECOND, FIRST),
+    "tests/list/harvest.in": HARVEST,
     "tests/list/empty.in": b"",
     "tests/list/one_byte.in": b"\0",
     "tests/list/broken.in": bundle(FIRST, SECOND) + struct.pack(">H", 500) + FIRST,

@@ -1,4 +1,6 @@
 // The program "list": reads a bundle from standard input and prints what panel 0 does with it.
+mod input;
+
 fn main() {
-    list_input::list_input();
+    input::list_input();
 }

@@ -5,8 +5,9 @@ use mathlib.Core.Bool.{Bool, true, false, cond}
 use mathlib.Core.List.{List, [], _∷_, _++_, append-assoc, append-nil}
 use Prim.Native.Nat.{ℕ, zero, suc, _+_, _≤_, _<_}
 use native.Mathlib.Omega.{arith}
-use borrow.Author.Tests.{le-ltb}
-use lib.ListN.{length, take}
+use borrow.Author.Tests.{lt-ltb, le-ltb}
+use lib.ListN.{length, take, drop}
+use lib.Seq.{take-at, drop-at}
 use Rattle.bundle.specs.declared.Step.{Step}
 use Rattle.bundle.specs.declared.Step.the-variants.{Frame, End, Broken}
 use Rattle.bundle.specs.Bundle.{bundleOf, stepAt}
@@ -20,7 +21,7 @@ use Rattle.lines.specs.Lines.{item, outcome, frameLine, payloadText, handLine, 
 use Rattle.listing.specs.declared.Listing.{Listing}
 use Rattle.listing.specs.Listing.{State, start, received, linesAt, onward, stateAfter, goesOn, linesFrom, listing}
 use Rattle.listing.specs.Step.{stateOf}
-use Rattle.listing.specs.Part.{linesLeft, Parts}
+use Rattle.listing.specs.Part.{linesLeft, PartPut, Parts}
 use Rattle.listing.specs.Part.Parts.{no-part, one-more}
 
 -- whoever unfolds this unfolds all that a listing is computed by
@@ -73,21 +74,39 @@ linesFrom-enough (suc most) bundle s within few =
 
 -- ---- the parts are together the whole
 
--- what was put and what is left are the lines from the start on
-parts-left : {bundle parts : List ℕ} {l : Listing} → Parts bundle parts l → parts ++ linesLeft bundle l ≡ linesFrom (suc (length bundle)) bundle start
-unfolding linesLeft
-parts-left {bundle} (no-part begun on) = ap₂ (λ (b : Bool) (s : State). cond b (linesFrom (suc (length bundle)) bundle s) []) on begun
-parts-left {bundle} (one-more {parts} {given} {text} {l} {after} before part) =
+-- what was put and what is left
+pub parts-left : {bundle parts : List ℕ} {l : Listing} → length bundle ≤ 65535 → Parts bundle parts l → parts ++ linesLeft bundle l ≡ listing bundle
+unfolding listing linesLeft
+parts-left {bundle} short (no-part begun on) =
+    ap₂ (λ (b : Bool) (s : State). cond b (linesFrom (suc (length bundle)) bundle s) []) on begun
+    ∙ ap (λ (b : Bool). cond b (ascii "long\n") (linesFrom (suc (length bundle)) bundle start)) (sym (le-ltb 65535 (length bundle) short))
+parts-left {bundle} short (one-more {parts} {given} {text} {l} {after} before part) =
     append-assoc parts (take (l .at) after) (linesLeft bundle l)
     ∙ ap (λ (rest : List ℕ). parts ++ rest) (sym (part .lines))
-    ∙ parts-left before
+    ∙ parts-left short before
+
+-- each part stands in the listing behind the parts before it
+pub part-in-listing : {bundle parts : List ℕ} {given : Listing} {text : List ℕ} {l : Listing} {after : List ℕ} → length bundle ≤ 65535
+    → Parts bundle parts given
+    → PartPut bundle given text l after
+    → take (length (take (l .at) after)) (drop (length parts) (listing bundle)) ≡ take (l .at) after
+part-in-listing {bundle} {parts} {given} {text} {l} {after} short before part =
+    let whole : parts ++ (take (l .at) after ++ linesLeft bundle l) ≡ listing bundle =
+    ap (λ (rest : List ℕ). parts ++ rest) (sym (part .lines)) ∙ parts-left short before in
+    ap (λ (w : List ℕ). take (length (take (l .at) after)) (drop (length parts) w)) (sym whole)
+    ∙ ap (take (length (take (l .at) after))) (drop-at parts (take (l .at) after ++ linesLeft bundle l) (length parts) refl)
+    ∙ take-at (take (l .at) after) (linesLeft bundle l) (length (take (l .at) after)) refl
 
 -- where nothing is left, the parts put are together the listing
 pub parts-are-listing : {bundle parts : List ℕ} {l : Listing} → length bundle ≤ 65535 → Parts bundle parts l → l .more ≡ false
     → parts ≡ listing bundle
-unfolding listing linesLeft
+unfolding linesLeft
 parts-are-listing {bundle} {parts} {l} short put over =
     sym (append-nil parts)
     ∙ ap (λ (b : Bool). parts ++ cond b (linesFrom (suc (length bundle)) bundle (stateOf l)) []) (sym over)
-    ∙ parts-left put
-    ∙ ap (λ (b : Bool). cond b (ascii "long\n") (linesFrom (suc (length bundle)) bundle start)) (sym (le-ltb 65535 (length bundle) short))
+    ∙ parts-left short put
+
+-- one of more than 65,535 bytes
+pub long-listing : (bundle : List ℕ) → 65535 < length bundle → listing bundle ≡ ascii "long\n"
+unfolding listing
+long-listing bundle long = rw (lt-ltb 65535 (length bundle) long) refl

@@ -6,9 +6,6 @@ use Rattle.listing.proofs.Stepping.{never}
 use Rattle.listing.proofs.Parts.{bytesLeft, fewer, Filling, filling-none, filling-step, filled}
 use Rattle.listing.proofs.list_part.Statement.{statement}
 use Rattle.listing.proofs.list_part.Tie as tie
-use Rattle.listing.proofs.list_part.Reads as reads
-use Rattle.listing.proofs.list_part.Lts as lts
-use Rattle.listing.proofs.list_next.Reads as list-next-reads
 
 abbrev Inv-loop : tie.InvT-loop
 Inv-loop bundle text₀ part₀ text part = Filling bundle part₀ text₀ part text

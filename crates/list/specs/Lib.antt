@@ -1,0 +1,2 @@
+-- What the program "list" may write.
+pub mod Written

@@ -1,0 +1,45 @@
+// Reads the bundle and writes its listing, through C's `read` and `write`, whose contracts the kit
+// assumes. They say nothing of the bytes: `write_part`, which alone writes, asks for the right ones.
+use listing::list_part;
+use listing::start;
+ghost use mathlib.Core.Path.{_≡_};
+ghost use Prim.Native.Nat.{_+_};
+ghost use lib.ListN.{length};
+ghost use Rattle.listing.specs.Listing.{listing as listingOf};
+ghost use Rattle.list.specs.Written.{BytesAt};
+
+// Writes a part of the input's listing, which stands there from that place on, and gives the place
+// behind it. Only the contract looks at the input.
+fn write_part<'a, 'b>(input: &'a [u8], written: usize, part: &'b [u8]) -> usize
+    requires { ⌜ BytesAt (listingOf (now input)) written (now part) ⌝ }
+    ensures { λ r. ⌜ r ≡ written + length (now (part .entry)) ⌝ }
+{
+    io::write_all(1, part);
+    written + part.len()
+}
+
+// Writes the listing part after part until nothing is left, and gives its length. Of an input of more
+// than 65,535 bytes it is only `long`.
+fn print_listing(input: &[u8]) -> usize
+    ensures { λ r. ⌜ r ≡ length (listingOf (now (input .entry))) ⌝ }
+{
+    if 65535 < input.len() {
+        return write_part(input, 0, b"long\n");
+    }
+    let mut text = [0u8; 16384];
+    let mut listing = start();
+    let mut written = 0;
+    while listing.more {
+        listing = list_part(input, listing, &mut text);
+        let at = listing.at;
+        written = write_part(input, written, &text[..at]);
+    }
+    written
+}
+
+// One byte more than a bundle may have is read, so that a longer input is seen.
+pub fn list_input() {
+    let mut input = [0u8; 65536];
+    let length = io::read_full(0, &mut input);
+    print_listing(&input[..length]);
+}

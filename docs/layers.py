@@ -46,12 +46,6 @@ class Crate:
     kind: str = ""
     holds: str = ""
     sizes: dict = field(default_factory=dict)
-    runs: int = 0  # so many further runs of a program are drawn as this one box
-
-def program_of(name):
-    """The crate whose src this crate's src is a link to: then it is a further run of that program."""
-    source = ROOT / "crates" / name / "src"
-    return source.resolve().parent.name if source.is_symlink() else None
 
 def read_crates():
     """Each crate of crates.txt; its layer is the longest way down to the bottom."""
@@ -99,22 +93,15 @@ def measure(name):
             "proof": len(lines_of(f"{name}/proofs", ".antt", "--")), "edits": len(list((ROOT / "crates" / name / "must-fail").glob("*.edit")))}
 
 def read_repository():
-    """All crates with their places; the further runs of a program as one."""
-    rows, boxes, runs = read_map(), [], {}
-    for crate in read_crates():
-        program = program_of(crate.name)
-        row = next((row for row in rows if crate.name in row[0]), None) or (program in runs and runs[program].row)
+    """All crates with their places."""
+    rows, crates = read_map(), read_crates()
+    for crate in crates:
+        row = next((row for row in rows if crate.name in row[0]), None)
         if not row:
             stop(f"crate {crate.name} of crates.txt has no place in the picture: README.md's Map has no row for it")
         place(crate, row)
-        crate.row, crate.sizes = row, measure(crate.name)
-        if program:
-            first = runs.setdefault(program, crate)
-            first.runs += 1
-            first.name, first.sizes = f"{first.runs} further run{'s' * (first.runs > 1)} of {program}", dict.fromkeys(first.sizes, 0)
-        if not program or runs[program] is crate:
-            boxes.append(crate)
-    return boxes
+        crate.sizes = measure(crate.name)
+    return crates
 
 
 # ---- The legend: what colours, bars, numbers and arrows mean
@@ -222,8 +209,6 @@ def draw_crate(drawing, crate, marks, x, y, width, height, scale):
     foot += [HARD.join(["steps"] + marks[crate.name])] if crate.name in marks else []
     bottom = drawing.paragraph(x + 8, y + (33 if fits else 47), crate.holds, words)
     bottom = drawing.paragraph(x + 8, bottom, f"{HARD}· ".join(foot), words, 11, QUIET)
-    if crate.runs:
-        return bottom
     bars = draw_bars(drawing, crate.sizes, x + width - BLOCK, y + 20, scale) if wide else draw_bars(drawing, crate.sizes, x + 8, bottom, scale)
     return max(bottom, bars)
 

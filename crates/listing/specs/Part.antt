@@ -18,8 +18,8 @@ pub record Placed (bundle : List ℕ) (l : Listing) : Type 0 where
   pub few : l .frames ≤ l .place
   pub within : l .place ≤ length bundle
 
--- what it gives: the part put is at the start of the buffer; with what is left then it is what was left before; it ends only where the listing
--- ends or too little room is left for a step; and where there is room for one, the place moves on
+-- what it gives: the part stands at the start of the buffer, and with what is left then it is what was left before; it ends only where the
+-- listing ends, or too little room is left for a step; in a buffer with room for a step the place moves on, unless the listing ends
 pub record PartPut (bundle : List ℕ) (given : Listing) (text : List ℕ) (l : Listing) (after : List ℕ) : Type 0 where
   pub put : Put text 0 (take (l .at) after) after (l .at)
   pub lines : linesLeft bundle given ≡ take (l .at) after ++ linesLeft bundle l
@@ -27,7 +27,7 @@ pub record PartPut (bundle : List ℕ) (given : Listing) (text : List ℕ) (l : 
   pub further : l .more ≡ true → 4096 ≤ length text → given .place < l .place
   pub placed : Placed bundle l
 
--- what parts put one after another from the start of the listing on are together, and where the listing stands then
+-- the parts put one after another, from the start of the listing on, joined; and where the listing stands then
 pub data Parts (bundle : List ℕ) : List ℕ → Listing → Type 0 where
   no-part : {l : Listing} → stateOf l ≡ start → l .more ≡ true → Parts bundle [] l
   one-more : {parts : List ℕ} {given : Listing} {text : List ℕ} {l : Listing} {after : List ℕ} → Parts bundle parts given

@@ -1,5 +1,6 @@
-// The listing of a bundle, step by step: each step receives one frame at a panel and puts its lines
-// into a buffer, which the program "list" prints. An internal crate: a step asks its caller for room.
+// The listing of a bundle, part after part: a part is the lines that a lent buffer has room for, which
+// the program "list" writes. It is put step by step: each step receives one frame at a panel and puts
+// its lines. An internal crate: a part asks for a place in the bundle, and a step for room too.
 use bundle::Step;
 use bundle::part_at;
 use bundle::step_at;
@@ -59,7 +60,7 @@ fn last<'a, 'b>(listing: Listing, text: &'a mut [u8], line: &'b [u8]) -> Listing
 }
 
 // One step: the lines of the next frame, or the last line.
-pub fn list_next<'a, 'b>(bundle: &'a [u8], listing: Listing, text: &'b mut [u8]) -> Listing
+fn list_next<'a, 'b>(bundle: &'a [u8], listing: Listing, text: &'b mut [u8]) -> Listing
     requires { ⌜ Standing (now bundle) listing (now text) ⌝ }
     ensures { λ r. ⌜ Stepped (now (bundle .entry)) listing (now (text .entry)) r (now (text .exit)) ⌝ }
 {
@@ -90,8 +91,8 @@ pub fn list_next<'a, 'b>(bundle: &'a [u8], listing: Listing, text: &'b mut [u8])
     }
 }
 
-// Puts a part of the listing from the start of the buffer on: the lines of step after step, while the
-// listing goes on and there is room for a step's lines.
+// Puts a part of the listing at the start of the buffer: the lines of step after step, while the
+// listing goes on and there is room for a step's lines. The listing then stands behind that part.
 pub fn list_part<'a, 'b>(bundle: &'a [u8], listing: Listing, text: &'b mut [u8]) -> Listing
     requires { ⌜ Placed (now bundle) listing ⌝ }
     ensures { λ r. ⌜ PartPut (now (bundle .entry)) listing (now (text .entry)) r (now (text .exit)) ⌝ }

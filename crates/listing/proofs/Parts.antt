@@ -6,13 +6,13 @@ use Prim.Native.Nat.{ℕ, suc, _+_, _-_, _≤_, _<_}
 use native.Mathlib.Omega.{arith}
 use lib.ListN.{length, take}
 use Rattle.numbers.proofs.Over.{take-over}
-use Rattle.bundle.specs.Bundle.{stepAt}
 use Rattle.text.specs.Put.{Put}
 use Rattle.text.proofs.Puts.{put-nil, put-put}
 use Rattle.listing.specs.declared.Listing.{Listing}
-use Rattle.listing.specs.Listing.{State, linesAt, stateAfter, goesOn, linesFrom}
-use Rattle.listing.specs.Step.{stateOf, Stepped}
-use Rattle.listing.specs.Part.{linesLeft, Placed, PartPut}
+use Rattle.listing.specs.Listing.{linesAt, stateAfter, linesFrom}
+use Rattle.listing.specs.Step.{stateOf, Placed, Stepped}
+use Rattle.listing.specs.Part.{linesLeft, PartPut}
+use Rattle.listing.proofs.Stepping.{never}
 use Rattle.listing.proofs.Theorems.{linesFrom-enough}
 
 -- ---- that it ends
@@ -29,7 +29,7 @@ fewer bundle given l on further within = go (given .more) (l .more) on further
         → cond after (suc (length bundle - l .place)) 0 < cond before (suc (length bundle - given .place)) 0
     go true true on further = let moved = further refl in omega (arith, within)
     go true false on further = omega arith
-    go false after on further = let z : _≡_ {A = ℕ} 0 1 = ap (λ (b : Bool). cond b 1 0) on in absurd (omega arith)
+    go false after on further = never on refl
 
 -- ---- what is left
 
@@ -47,7 +47,7 @@ left-step bundle given l on stepped =
         ≡ cond more (linesFrom (suc (length bundle)) bundle (stateOf l)) []
     same true goes =
         ap (linesFrom (length bundle) bundle) (sym (stepped .state))
-        ∙ sym (linesFrom-enough (length bundle) bundle (stateOf l) (stepped .within) (omega (arith, stepped .further goes)))
+        ∙ sym (linesFrom-enough (length bundle) bundle (stateOf l) (stepped .placed .within) (omega (arith, stepped .further goes)))
     same false goes = refl
 
 -- ---- the lines put so far
@@ -95,7 +95,7 @@ filling-step {bundle} {given} {text} {l} {now} {next} {after} on filling room st
           ∙ sym (append-assoc (filling .lines) (linesAt bundle (stateOf l)) (linesLeft bundle next));
       onward = λ goes. omega (arith, filling .onward on, stepped .further goes);
       further = λ goes _. omega (arith, filling .onward on, stepped .further goes);
-      placed = record { few = stepped .few; within = stepped .within };
+      placed = stepped .placed;
     }
 
 -- the part put

@@ -56,8 +56,7 @@ module _ (bundle : List ℕ) (given : Listing) {start size next : ℕ} (frame : 
         state = sym frame-state;
         more = rw frame refl;
         short = omega (arith, line .1, lines .1);
-        few = omega (arith, found .begins, found .ends, standing .few);
-        within = found .within;
+        placed = record { few = omega (arith, found .begins, found .ends, standing .placed .few); within = found .within };
         further = λ _. omega (arith, found .begins, found .ends);
       }
 
@@ -80,8 +79,7 @@ last-stepped {bundle} {given} {text} {line} {after} {l} standing line-is stays o
       state = ended .state ∙ sym stays;
       more = ended .more ∙ sym over;
       short = omega (arith, ended .lines .place);
-      few = omega (arith, standing .few);
-      within = omega (arith, standing .within);
+      placed = record { few = omega (arith, standing .placed .few); within = omega (arith, standing .placed .within) };
       further = λ on. never on (ended .more);
     }
 

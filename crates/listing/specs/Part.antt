@@ -7,18 +7,13 @@ use lib.ListN.{length, take}
 use Rattle.text.specs.Put.{Put}
 use Rattle.listing.specs.declared.Listing.{Listing}
 use Rattle.listing.specs.Listing.{start, linesFrom}
-use Rattle.listing.specs.Step.{stateOf}
+use Rattle.listing.specs.Step.{stateOf, Placed}
 
 -- what is left of the listing where it stands
 unfoldable pub linesLeft : List ℕ → Listing → List ℕ
 linesLeft bundle l = cond (l .more) (linesFrom (suc (length bundle)) bundle (stateOf l)) []
 
--- what a part asks for: a place in the bundle, behind at least as many bytes as frames
-pub record Placed (bundle : List ℕ) (l : Listing) : Type 0 where
-  pub few : l .frames ≤ l .place
-  pub within : l .place ≤ length bundle
-
--- what it gives: the part stands at the start of the buffer, and with what is left then it is what was left before; it ends only where the
+-- what a part gives: it stands at the start of the buffer, and with what is left then it is what was left before; it ends only where the
 -- listing ends, or too little room is left for a step; in a buffer with room for a step the place moves on, unless the listing ends
 pub record PartPut (bundle : List ℕ) (given : Listing) (text : List ℕ) (l : Listing) (after : List ℕ) : Type 0 where
   pub put : Put text 0 (take (l .at) after) after (l .at)

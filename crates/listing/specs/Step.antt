@@ -14,11 +14,15 @@ use Rattle.listing.specs.Listing.{State, linesAt, stateAfter, goesOn}
 abbrev pub stateOf : Listing → State
 stateOf l = record { panel = recordOf (l .panel); place = l .place; frames = l .frames }
 
--- what a step asks for: room for the longest lines, and a place in the bundle, behind at least as many bytes as frames
-pub record Standing (bundle : List ℕ) (l : Listing) (text : List ℕ) : Type 0 where
-  pub room : Room text (l .at) 4096
+-- it stands in the bundle, behind at least as many bytes as frames
+pub record Placed (bundle : List ℕ) (l : Listing) : Type 0 where
   pub few : l .frames ≤ l .place
   pub within : l .place ≤ length bundle
+
+-- what a step asks for: a place in the bundle, and room for the longest lines
+pub record Standing (bundle : List ℕ) (l : Listing) (text : List ℕ) : Type 0 where
+  pub placed : Placed bundle l
+  pub room : Room text (l .at) 4096
 
 -- what it gives: the lines are put, the listing stands where they end, and goes on with a place further on
 pub record Stepped (bundle : List ℕ) (given : Listing) (text : List ℕ) (l : Listing) (after : List ℕ) : Type 0 where
@@ -26,8 +30,7 @@ pub record Stepped (bundle : List ℕ) (given : Listing) (text : List ℕ) (l : 
   pub state : stateOf l ≡ stateAfter bundle (stateOf given)
   pub more : l .more ≡ goesOn (stepAt bundle (given .place))
   pub short : l .at ≤ given .at + 4096
-  pub few : l .frames ≤ l .place
-  pub within : l .place ≤ length bundle
+  pub placed : Placed bundle l
   pub further : l .more ≡ true → given .place < l .place
 
 -- what putting the last line gives: the listing stands where it stood, and does not go on

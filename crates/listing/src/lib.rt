@@ -15,8 +15,8 @@ ghost use mathlib.Core.Bool.{true};
 ghost use lib.ListN.{length};
 ghost use Rattle.text.specs.Put.{Room};
 ghost use Rattle.listing.specs.Listing.{start as startState};
-ghost use Rattle.listing.specs.Step.{stateOf, Standing, Stepped, Ended};
-ghost use Rattle.listing.specs.Part.{Placed, PartPut};
+ghost use Rattle.listing.specs.Step.{stateOf, Placed, Standing, Stepped, Ended};
+ghost use Rattle.listing.specs.Part.{PartPut};
 
 // Where the listing stands: the panel, the place in the bundle, the frames so far, the place behind
 // the text put so far, and whether it goes on.

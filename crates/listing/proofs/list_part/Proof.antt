@@ -1,5 +1,5 @@
 -- `listing::list_part` meets its contract: after each step the lines so far are put. Assumes nothing.
-use mathlib.Core.Path.{_≡_, refl}
+use mathlib.Core.Path.{refl}
 use native.Mathlib.Omega.{arith}
 use borrow.Author.Needs.{needs}
 use Rattle.listing.proofs.Stepping.{never}
@@ -23,7 +23,9 @@ same-length : tie.Need-same-length Inv-loop μ-loop
 same-length c = c .before .before .before .loop .inv .put .kept
 
 returns : tie.Need-returns Inv-loop μ-loop
-returns c = let l = c .before .before .before .loop in filled {given = c .before .before .before .before .before .before .args .listing} (l .inv) (λ _. omega (arith, l .inv .put .kept))
+returns c =
+    let l = c .before .before .before .loop in
+    filled {given = c .before .before .before .before .before .before .args .listing} (l .inv) (λ _. omega (arith, l .inv .put .kept))
 
 list-next-requires : tie.Need-list-next-requires Inv-loop μ-loop
 list-next-requires c κs = search needs
@@ -32,7 +34,8 @@ loop-less : tie.Need-loop-less Inv-loop μ-loop
 loop-less c =
     let l = c .before .before .before .before .before .before .before .loop in
     let step = c .before .before .list-next in
-    fewer (c .before .before .before .before .before .before .before .before .before .before .args .bundle .now) (l .part) (step .result) (search needs) (step .ensures .further) (step .ensures .within)
+    let start = c .before .before .before .before .before .before .before .before .before .before in
+    fewer (start .args .bundle .now) (l .part) (step .result) (search needs) (step .ensures .further) (step .ensures .placed .within)
 
 loop-again : tie.Need-loop-again Inv-loop μ-loop
 loop-again c =

@@ -11,8 +11,8 @@ use lib.Seq.{length-take-le}
 use Rattle.text.specs.Text.{ascii}
 use Rattle.listing.specs.declared.Listing.{Listing}
 use Rattle.listing.specs.Listing.{State, start as startState, listing}
-use Rattle.listing.specs.Step.{stateOf}
-use Rattle.listing.specs.Part.{Placed, PartPut, Parts}
+use Rattle.listing.specs.Step.{stateOf, Placed}
+use Rattle.listing.specs.Part.{PartPut, Parts}
 use Rattle.listing.specs.Part.Parts.{no-part, one-more}
 use Rattle.listing.proofs.Parts.{bytesLeft, fewer}
 use Rattle.listing.proofs.Theorems.{part-in-listing, parts-are-listing, long-listing}

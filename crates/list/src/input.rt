@@ -1,5 +1,6 @@
 // Reads the bundle and writes its listing, through C's `read` and `write`, whose contracts the kit
-// assumes. They say nothing of the bytes: `write_part`, which alone writes, asks for the right ones.
+// assumes. They say nothing of the bytes: so `write_part`, which alone writes, has the precondition that
+// these are the next bytes of the listing.
 use listing::list_part;
 use listing::start;
 ghost use mathlib.Core.Path.{_≡_};
@@ -7,6 +8,9 @@ ghost use Prim.Native.Nat.{_+_};
 ghost use lib.ListN.{length};
 ghost use Rattle.listing.specs.Listing.{listing as listingOf};
 ghost use Rattle.list.specs.Written.{BytesAt};
+
+// The bytes of the longest bundle that is listed.
+const LONGEST: usize = 65535;
 
 // Writes a part of the input's listing, which stands there from that place on, and gives the place
 // behind it. Only the contract looks at the input.
@@ -18,12 +22,12 @@ fn write_part<'a, 'b>(input: &'a [u8], written: usize, part: &'b [u8]) -> usize
     written + part.len()
 }
 
-// Writes the listing part after part until nothing is left, and gives its length. Of an input of more
-// than 65,535 bytes it is only `long`.
+// Writes the listing part after part until nothing is left, and gives its length. Of an input
+// above the longest bundle it is only `long`.
 fn print_listing(input: &[u8]) -> usize
     ensures { λ r. ⌜ r ≡ length (listingOf (now (input .entry))) ⌝ }
 {
-    if 65535 < input.len() {
+    if LONGEST < input.len() {
         return write_part(input, 0, b"long\n");
     }
     let mut text = [0u8; 16384];
@@ -39,7 +43,7 @@ fn print_listing(input: &[u8]) -> usize
 
 // One byte more than a bundle may have is read, so that a longer input is seen.
 pub fn list_input() {
-    let mut input = [0u8; 65536];
+    let mut input = [0u8; LONGEST + 1];
     let length = io::read_full(0, &mut input);
     print_listing(&input[..length]);
 }

@@ -10,7 +10,7 @@ use Rattle.text.specs.Put.{Put}
 use Rattle.text.proofs.Puts.{put-nil, put-put}
 use Rattle.listing.specs.declared.Listing.{Listing}
 use Rattle.listing.specs.Listing.{linesAt, stateAfter, linesFrom}
-use Rattle.listing.specs.Step.{stateOf, Placed, Stepped}
+use Rattle.listing.specs.Step.{stateOf, stepRoom, Placed, Stepped}
 use Rattle.listing.specs.Part.{linesLeft, PartPut}
 use Rattle.listing.proofs.Stepping.{never}
 use Rattle.listing.proofs.Theorems.{linesFrom-enough}
@@ -81,7 +81,7 @@ filling-none {bundle} {given} {text} first placed =
 -- those of one step more
 pub filling-step : {bundle : List ℕ} {given : Listing} {text : List ℕ} {l : Listing} {now : List ℕ} {next : Listing} {after : List ℕ} → l .more ≡ true
     → Filling bundle given text l now
-    → l .at + 4096 ≤ length text
+    → l .at + stepRoom ≤ length text
     → Stepped bundle l now next after
     → Filling bundle given text next after
 filling-step {bundle} {given} {text} {l} {now} {next} {after} on filling room stepped =
@@ -100,7 +100,7 @@ filling-step {bundle} {given} {text} {l} {now} {next} {after} on filling room st
 
 -- the part put
 pub filled : {bundle : List ℕ} {given : Listing} {text : List ℕ} {l : Listing} {after : List ℕ} → Filling bundle (atStart given) text l after
-    → (l .more ≡ true → length text < l .at + 4096)
+    → (l .more ≡ true → length text < l .at + stepRoom)
     → PartPut bundle given text l after
 unfolding linesLeft
 filled {bundle} {given} {text} {l} {after} filling full =

@@ -20,7 +20,7 @@ use Rattle.text.proofs.Puts.{put-put}
 use Rattle.lines.specs.Lines.{frameLine, handLines}
 use Rattle.listing.specs.declared.Listing.{Listing}
 use Rattle.listing.specs.Listing.{State, linesOf, linesAt, onward, stateAfter, goesOn, received}
-use Rattle.listing.specs.Step.{stateOf, Standing, Stepped, Ended}
+use Rattle.listing.specs.Step.{stateOf, stepRoom, Standing, Stepped, Ended}
 
 -- the frame at the listing's place was received, as promised
 module _ (bundle : List ℕ) (given : Listing) {start size next : ℕ} (frame : stepAt bundle (given .place) ≡ Frame start size next)
@@ -68,7 +68,7 @@ last-stepped : {bundle : List ℕ} {given : Listing} {text line after : List ℕ
     → linesAt bundle (stateOf given) ≡ line
     → stateAfter bundle (stateOf given) ≡ stateOf given
     → goesOn (stepAt bundle (given .place)) ≡ false
-    → length line ≤ 4096
+    → length line ≤ stepRoom
     → Ended given text line l after
     → Stepped bundle given text l after
 last-stepped {bundle} {given} {text} {line} {after} {l} standing line-is stays over short ended =

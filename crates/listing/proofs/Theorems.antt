@@ -19,7 +19,7 @@ use Rattle.log_records.specs.LogRecords.{logRecordAt, isWhole, fieldsIn, payloa
 use Rattle.text.specs.Text.{ascii, digit, decimalIn, hexadecimal}
 use Rattle.lines.specs.Lines.{item, outcome, frameLine, payloadText, handLine, handLines}
 use Rattle.listing.specs.declared.Listing.{Listing}
-use Rattle.listing.specs.Listing.{State, start, received, linesAt, onward, stateAfter, goesOn, linesFrom, listing}
+use Rattle.listing.specs.Listing.{State, start, received, linesAt, onward, stateAfter, goesOn, linesFrom, longest, listing}
 use Rattle.listing.specs.Step.{stateOf}
 use Rattle.listing.specs.Part.{linesLeft, PartPut, Parts}
 use Rattle.listing.specs.Part.Parts.{no-part, one-more}
@@ -75,18 +75,18 @@ linesFrom-enough (suc most) bundle s within few =
 -- ---- the parts are together the whole
 
 -- what was put and what is left
-pub parts-left : {bundle parts : List ℕ} {l : Listing} → length bundle ≤ 65535 → Parts bundle parts l → parts ++ linesLeft bundle l ≡ listing bundle
+pub parts-left : {bundle parts : List ℕ} {l : Listing} → length bundle ≤ longest → Parts bundle parts l → parts ++ linesLeft bundle l ≡ listing bundle
 unfolding listing linesLeft
 parts-left {bundle} short (no-part begun on) =
     ap₂ (λ (b : Bool) (s : State). cond b (linesFrom (suc (length bundle)) bundle s) []) on begun
-    ∙ ap (λ (b : Bool). cond b (ascii "long\n") (linesFrom (suc (length bundle)) bundle start)) (sym (le-ltb 65535 (length bundle) short))
+    ∙ ap (λ (b : Bool). cond b (ascii "long\n") (linesFrom (suc (length bundle)) bundle start)) (sym (le-ltb longest (length bundle) short))
 parts-left {bundle} short (one-more {parts} {given} {text} {l} {after} before part) =
     append-assoc parts (take (l .at) after) (linesLeft bundle l)
     ∙ ap (λ (rest : List ℕ). parts ++ rest) (sym (part .lines))
     ∙ parts-left short before
 
 -- each part stands in the listing behind the parts before it
-pub part-in-listing : {bundle parts : List ℕ} {given : Listing} {text : List ℕ} {l : Listing} {after : List ℕ} → length bundle ≤ 65535
+pub part-in-listing : {bundle parts : List ℕ} {given : Listing} {text : List ℕ} {l : Listing} {after : List ℕ} → length bundle ≤ longest
     → Parts bundle parts given
     → PartPut bundle given text l after
     → take (length (take (l .at) after)) (drop (length parts) (listing bundle)) ≡ take (l .at) after
@@ -98,7 +98,7 @@ part-in-listing {bundle} {parts} {given} {text} {l} {after} short before part =
     ∙ take-at (take (l .at) after) (linesLeft bundle l) (length (take (l .at) after)) refl
 
 -- where nothing is left, the parts put are together the listing
-pub parts-are-listing : {bundle parts : List ℕ} {l : Listing} → length bundle ≤ 65535 → Parts bundle parts l → l .more ≡ false
+pub parts-are-listing : {bundle parts : List ℕ} {l : Listing} → length bundle ≤ longest → Parts bundle parts l → l .more ≡ false
     → parts ≡ listing bundle
 unfolding linesLeft
 parts-are-listing {bundle} {parts} {l} short put over =
@@ -106,7 +106,7 @@ parts-are-listing {bundle} {parts} {l} short put over =
     ∙ ap (λ (b : Bool). parts ++ cond b (linesFrom (suc (length bundle)) bundle (stateOf l)) []) (sym over)
     ∙ parts-left short put
 
--- one of more than 65,535 bytes
-pub long-listing : (bundle : List ℕ) → 65535 < length bundle → listing bundle ≡ ascii "long\n"
+-- of a longer one it is only `long`
+pub long-listing : (bundle : List ℕ) → longest < length bundle → listing bundle ≡ ascii "long\n"
 unfolding listing
-long-listing bundle long = rw (lt-ltb 65535 (length bundle) long) refl
+long-listing bundle long = rw (lt-ltb longest (length bundle) long) refl

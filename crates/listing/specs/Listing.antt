@@ -57,6 +57,10 @@ linesFrom zero bundle s = []
 linesFrom (suc most) bundle s =
     linesAt bundle s ++ cond (goesOn (stepAt bundle (s .place))) (linesFrom most bundle (stateAfter bundle s)) []
 
--- the whole listing of a bundle of at most 65,535 bytes, which has fewer frames than bytes; a longer one prints only `long`
+-- the bytes of the longest bundle that is listed
+abbrev pub longest : ℕ
+longest = 65535
+
+-- the whole listing of a bundle of at most so many bytes, which has fewer frames than bytes; a longer one prints only `long`
 unfoldable pub listing : List ℕ → List ℕ
-listing input = cond (ltb 65535 (length input)) (ascii "long\n") (linesFrom (suc (length input)) input start)
+listing input = cond (ltb longest (length input)) (ascii "long\n") (linesFrom (suc (length input)) input start)

@@ -7,7 +7,7 @@ use lib.ListN.{length, take}
 use Rattle.text.specs.Put.{Put}
 use Rattle.listing.specs.declared.Listing.{Listing}
 use Rattle.listing.specs.Listing.{start, linesFrom}
-use Rattle.listing.specs.Step.{stateOf, Placed}
+use Rattle.listing.specs.Step.{stateOf, stepRoom, Placed}
 
 -- what is left of the listing where it stands
 unfoldable pub linesLeft : List ℕ → Listing → List ℕ
@@ -18,8 +18,8 @@ linesLeft bundle l = cond (l .more) (linesFrom (suc (length bundle)) bundle (sta
 pub record PartPut (bundle : List ℕ) (given : Listing) (text : List ℕ) (l : Listing) (after : List ℕ) : Type 0 where
   pub put : Put text 0 (take (l .at) after) after (l .at)
   pub lines : linesLeft bundle given ≡ take (l .at) after ++ linesLeft bundle l
-  pub full : l .more ≡ true → length text < l .at + 4096
-  pub further : l .more ≡ true → 4096 ≤ length text → given .place < l .place
+  pub full : l .more ≡ true → length text < l .at + stepRoom
+  pub further : l .more ≡ true → stepRoom ≤ length text → given .place < l .place
   pub placed : Placed bundle l
 
 -- the parts put one after another, from the start of the listing on, joined; and where the listing stands then

@@ -19,17 +19,21 @@ pub record Placed (bundle : List ℕ) (l : Listing) : Type 0 where
   pub few : l .frames ≤ l .place
   pub within : l .place ≤ length bundle
 
--- what a step asks for: a place in the bundle, and room for the longest lines
+-- the bytes that the longest lines of a step have room in: 48 for a frame's, and 112 for each of 33 log records'
+abbrev pub stepRoom : ℕ
+stepRoom = 4096
+
+-- the precondition of a step: a place in the bundle, and that room
 pub record Standing (bundle : List ℕ) (l : Listing) (text : List ℕ) : Type 0 where
   pub placed : Placed bundle l
-  pub room : Room text (l .at) 4096
+  pub room : Room text (l .at) stepRoom
 
 -- what it gives: the lines are put, the listing stands where they end, and goes on with a place further on
 pub record Stepped (bundle : List ℕ) (given : Listing) (text : List ℕ) (l : Listing) (after : List ℕ) : Type 0 where
   pub lines : Put text (given .at) (linesAt bundle (stateOf given)) after (l .at)
   pub state : stateOf l ≡ stateAfter bundle (stateOf given)
   pub more : l .more ≡ goesOn (stepAt bundle (given .place))
-  pub short : l .at ≤ given .at + 4096
+  pub short : l .at ≤ given .at + stepRoom
   pub placed : Placed bundle l
   pub further : l .more ≡ true → given .place < l .place
 

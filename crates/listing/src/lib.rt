@@ -1,6 +1,6 @@
 // The listing of a bundle, part after part: a part is the lines that a lent buffer has room for, which
 // the program "list" writes. It is put step by step: each step receives one frame at a panel and puts
-// its lines. An internal crate: a part asks for a place in the bundle, and a step for room too.
+// its lines. An internal crate. Precondition: a place in the bundle; of a step room too.
 use bundle::Step;
 use bundle::part_at;
 use bundle::step_at;
@@ -17,6 +17,9 @@ ghost use Rattle.text.specs.Put.{Room};
 ghost use Rattle.listing.specs.Listing.{start as startState};
 ghost use Rattle.listing.specs.Step.{stateOf, Placed, Standing, Stepped, Ended};
 ghost use Rattle.listing.specs.Part.{PartPut};
+
+// The bytes that the longest lines of a step have room in.
+const STEP_ROOM: usize = 4096;
 
 // Where the listing stands: the panel, the place in the bundle, the frames so far, the place behind
 // the text put so far, and whether it goes on.
@@ -100,7 +103,7 @@ pub fn list_part<'a, 'b>(bundle: &'a [u8], listing: Listing, text: &'b mut [u8])
     let mut part = listing;
     part.at = 0;
     while part.more {
-        if text.len() < part.at + 4096 {
+        if text.len() < part.at + STEP_ROOM {
             return part;
         }
         part = list_next(bundle, part, text);

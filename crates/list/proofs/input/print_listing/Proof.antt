@@ -10,8 +10,8 @@ use lib.ListN.{length, take, length-append, length-take}
 use lib.Seq.{length-take-le}
 use Rattle.text.specs.Text.{ascii}
 use Rattle.listing.specs.declared.Listing.{Listing}
-use Rattle.listing.specs.Listing.{State, start as startState, listing}
-use Rattle.listing.specs.Step.{stateOf, Placed}
+use Rattle.listing.specs.Listing.{State, start as startState, longest, listing}
+use Rattle.listing.specs.Step.{stateOf, stepRoom, Placed}
 use Rattle.listing.specs.Part.{PartPut, Parts}
 use Rattle.listing.specs.Part.Parts.{no-part, one-more}
 use Rattle.listing.proofs.Parts.{bytesLeft, fewer}
@@ -38,7 +38,7 @@ abbrev μ-loop : tie.MeasureT-loop
 
 -- the next part: its length, that it stands in the listing at its place, and what is written then
 module _ {input : List ℕ} {size : ℕ} {text : List ℕ} {given : Listing} {written : ℕ} (printing : Printing input size text given written)
-    (on : given .more ≡ true) (short : length input ≤ 65535) (small : size ≤ 16384) {l : Listing} {after : List ℕ}
+    (on : given .more ≡ true) (short : length input ≤ longest) (small : size ≤ 16384) {l : Listing} {after : List ℕ}
     (part : PartPut input given text l after) where
   part-length : l .at ≡ length (take (l .at) after)
   part-length = omega (arith, part .put .place)
@@ -53,7 +53,7 @@ module _ {input : List ℕ} {size : ℕ} {text : List ℕ} {given : Listing} {wr
         small = omega (arith, part-length, part-room, printing .few on, printing .placed .within);
       }
 
-  printing-next : 4096 ≤ size → Printing input size after l (written + length (take (l .at) after))
+  printing-next : stepRoom ≤ size → Printing input size after l (written + length (take (l .at) after))
   printing-next enough =
       record {
         parts = printing .parts ++ take (l .at) after;
@@ -65,11 +65,11 @@ module _ {input : List ℕ} {size : ℕ} {text : List ℕ} {given : Listing} {wr
       }
 
 -- of a longer input only `long`
-long-there : (input : List ℕ) → 65535 < length input → BytesAt (listing input) 0 (ascii "long\n")
+long-there : (input : List ℕ) → longest < length input → BytesAt (listing input) 0 (ascii "long\n")
 unfolding ascii
 long-there input long = record { bytes = rw (long-listing input long) refl; small = omega arith }
 
-long-length : (input : List ℕ) → 65535 < length input → length (listing input) ≡ 5
+long-length : (input : List ℕ) → longest < length input → length (listing input) ≡ 5
 unfolding ascii
 long-length input long = rw (long-listing input long) refl
 

@@ -19,9 +19,8 @@ BeginsInPlace =
     (κs : Lfts 7) (given : Dens κs in-place.ps) (answer : resT in-place.r κs .Denot) (ended : AtExit (endedOf 7 in-place.ps in-place.r) κs)
     → in-place-reads.Learnt κs given answer ended
     → given .0 ≤ 63
-    → let left = ended .1 in
-    recordOf (parts (now (left .0)) (now (left .1 .0)) (now (left .1 .1 .0)) (now (left .1 .1 .1 .0)) (now (left .1 .1 .1 .1 .0)) (now (left .1 .1 .1 .1 .1 .0)) (now (left .1 .1 .1 .1 .1 .1 .0)))
-    ≡ fresh (given .0)
+    → let (_, (own, (time, (high, (count, (marks, (barrier, (slots, _)))))))) = ended in
+    recordOf (parts (now own) (now time) (now high) (now count) (now marks) (now barrier) (now slots)) ≡ fresh (given .0)
 
 -- by value: that of the struct in the answer
 abbrev pub BeginsByValue : Type 0

@@ -39,43 +39,40 @@ CallOf lifetimes parameters result learnt makes run =
 
 abbrev pub sendInPlace : Makes 8 send-parts.ps send-parts.r
 sendInPlace κs given answer ended =
-    let lent = given .1 .1 in
-    let others = lent .1 .1 .1 .1 .1 in
-    let left = ended .1 .1 in
+    let (own, (time, (high, (count, (marks, (barrier, (slots, (payload, (lifetime, (output, (buffer, _))))))))))) = given in
+    let (_, (_, (high′, (count′, (marks′, (barrier′, (slots′, (_, (_, (output′, (buffer′, _))))))))))) = ended in
     record {
-      given = parts (given .0) (given .1 .0) (now (lent .0)) (now (lent .1 .0)) (now (lent .1 .1 .0)) (now (lent .1 .1 .1 .0)) (now (lent .1 .1 .1 .1 .0));
-      call = send (now (others .0)) (others .1 .0) (now (others .1 .1 .0)) (now (others .1 .1 .1 .0));
+      given = parts own time (now high) (now count) (now marks) (now barrier) (now slots);
+      call = send (now payload) lifetime (now output) (now buffer);
       answer = answer;
-      left = parts (given .0) (given .1 .0) (now (left .0)) (now (left .1 .0)) (now (left .1 .1 .0)) (now (left .1 .1 .1 .0)) (now (left .1 .1 .1 .1 .0));
-      output = now (left .1 .1 .1 .1 .1 .1 .1 .0);
-      buffer = now (left .1 .1 .1 .1 .1 .1 .1 .1 .0);
+      left = parts own time (now high′) (now count′) (now marks′) (now barrier′) (now slots′);
+      output = now output′;
+      buffer = now buffer′;
     }
 
 abbrev pub receiveInPlace : Makes 7 receive-parts.ps receive-parts.r
 receiveInPlace κs given answer ended =
-    let lent = given .1 .1 in
-    let others = lent .1 .1 .1 .1 .1 in
-    let left = ended .1 .1 in
+    let (own, (time, (high, (count, (marks, (barrier, (slots, (frame, (output, _))))))))) = given in
+    let (_, (_, (high′, (count′, (marks′, (barrier′, (slots′, (_, (output′, _))))))))) = ended in
     record {
-      given = parts (given .0) (given .1 .0) (now (lent .0)) (now (lent .1 .0)) (now (lent .1 .1 .0)) (now (lent .1 .1 .1 .0)) (now (lent .1 .1 .1 .1 .0));
-      call = receive (now (others .0)) (now (others .1 .0));
+      given = parts own time (now high) (now count) (now marks) (now barrier) (now slots);
+      call = receive (now frame) (now output);
       answer = answer;
-      left = parts (given .0) (given .1 .0) (now (left .0)) (now (left .1 .0)) (now (left .1 .1 .0)) (now (left .1 .1 .1 .0)) (now (left .1 .1 .1 .1 .0));
-      output = now (left .1 .1 .1 .1 .1 .1 .0);
+      left = parts own time (now high′) (now count′) (now marks′) (now barrier′) (now slots′);
+      output = now output′;
       buffer = [];
     }
 
 abbrev pub clockInPlace : Makes 7 clock-parts.ps clock-parts.r
 clockInPlace κs given answer ended =
-    let lent = given .1 in
-    let others = lent .1 .1 .1 .1 .1 .1 in
-    let left = ended .1 in
+    let (own, (time, (high, (count, (marks, (barrier, (slots, (reading, (output, _))))))))) = given in
+    let (_, (time′, (high′, (count′, (marks′, (barrier′, (slots′, (_, (output′, _))))))))) = ended in
     record {
-      given = parts (given .0) (now (lent .0)) (now (lent .1 .0)) (now (lent .1 .1 .0)) (now (lent .1 .1 .1 .0)) (now (lent .1 .1 .1 .1 .0)) (now (lent .1 .1 .1 .1 .1 .0));
-      call = clock (others .0) (now (others .1 .0));
+      given = parts own (now time) (now high) (now count) (now marks) (now barrier) (now slots);
+      call = clock reading (now output);
       answer = answer;
-      left = parts (given .0) (now (left .0)) (now (left .1 .0)) (now (left .1 .1 .0)) (now (left .1 .1 .1 .0)) (now (left .1 .1 .1 .1 .0)) (now (left .1 .1 .1 .1 .1 .0));
-      output = now (left .1 .1 .1 .1 .1 .1 .1 .0);
+      left = parts own (now time′) (now high′) (now count′) (now marks′) (now barrier′) (now slots′);
+      output = now output′;
       buffer = [];
     }
 
@@ -83,34 +80,40 @@ clockInPlace κs given answer ended =
 
 abbrev pub sendByValue : Makes 3 send-value.ps send-value.r
 sendByValue κs given answer ended =
+    let (panel, (payload, (lifetime, (output, (buffer, _))))) = given in
+    let (_, (_, (_, (output′, (buffer′, _))))) = ended in
     record {
-      given = partsOf (given .0);
-      call = send (now (given .1 .0)) (given .1 .1 .0) (now (given .1 .1 .1 .0)) (now (given .1 .1 .1 .1 .0));
+      given = partsOf panel;
+      call = send (now payload) lifetime (now output) (now buffer);
       answer = record { count = answer .count; length = answer .length; number = answer .number };
       left = partsOf (answer .panel);
-      output = now (ended .1 .1 .1 .0);
-      buffer = now (ended .1 .1 .1 .1 .0);
+      output = now output′;
+      buffer = now buffer′;
     }
 
 abbrev pub receiveByValue : Makes 2 receive-value.ps receive-value.r
 receiveByValue κs given answer ended =
+    let (panel, (frame, (output, _))) = given in
+    let (_, (_, (output′, _))) = ended in
     record {
-      given = partsOf (given .0);
-      call = receive (now (given .1 .0)) (now (given .1 .1 .0));
+      given = partsOf panel;
+      call = receive (now frame) (now output);
       answer = record { count = answer .count; length = 0; number = answer .number };
       left = partsOf (answer .panel);
-      output = now (ended .1 .1 .0);
+      output = now output′;
       buffer = [];
     }
 
 abbrev pub clockByValue : Makes 1 clock-value.ps clock-value.r
 clockByValue κs given answer ended =
+    let (panel, (reading, (output, _))) = given in
+    let (_, (_, (output′, _))) = ended in
     record {
-      given = partsOf (given .0);
-      call = clock (given .1 .0) (now (given .1 .1 .0));
+      given = partsOf panel;
+      call = clock reading (now output);
       answer = record { count = answer .count; length = 0; number = answer .number };
       left = partsOf (answer .panel);
-      output = now (ended .1 .1 .0);
+      output = now output′;
       buffer = [];
     }
 

@@ -5,6 +5,7 @@ use mathlib.Core.Logic.{_≢_}
 use mathlib.Core.List.{List, map}
 use Prim.Native.Nat.{ℕ}
 use native.Mathlib.Omega.{arith}
+use lib.ListN.{length, take}
 use Rattle.numbers.specs.Numbers.{Bytes}
 use Rattle.frame.specs.Message.{Message}
 use Rattle.frame.specs.Frame.{frame}
@@ -13,11 +14,12 @@ use Rattle.frame.specs.Readable.{readable}
 use Rattle.frame.proofs.Theorems.{reading-frame, frame-reading}
 use Rattle.rules.specs.Sizes.{width}
 use Rattle.rules.specs.Panel.{Panel}
+use Rattle.rules.specs.Calls.{newMessage}
 use Rattle.rules.specs.Refusals.{Listed, freshNumber}
-use Rattle.rules.specs.Results.{Call, outputOf, bufferOf, refused, defined}
+use Rattle.rules.specs.Results.{Call, send, outputOf, bufferOf, refused, defined}
 use Rattle.rules.specs.Lists.{Lawful}
 use Rattle.rules.specs.Demand3.{Demand3}
-use Rattle.rules.proofs.Theorems.{demand-3, number-listed, reading-listed, fresh-listed, refusal-unchanged}
+use Rattle.rules.proofs.Theorems.{demand-3, number-listed, reading-listed, fresh-listed, refusal-unchanged, sent-reads}
 use Rattle.exports.proofs.Fresh.{freshRecord-within}
 use Rattle.demands.specs.Runs.{Run, madeOf}
 use Rattle.demands.specs.Beginning.{BeginsInPlace, BeginsByValue}
@@ -34,9 +36,13 @@ pub record Demands (M : Type 1) : Type 2 where
   pub fresh-numbers : (own : ℕ) → Listed (freshNumber own)
   pub refusals : (p : Panel) (call : Call) → defined p call .number ≢ 0
       → defined p call ≡ refused p (outputOf call) (bufferOf call) (defined p call .number)
-  -- Demand 2: a written frame reads back as its message, and bytes that read as a message are the very bytes written for it.
+  -- Demand 2: a written frame reads back as its message, and bytes that read as a message are the very bytes written for it; what a send has
+  -- left in its frame buffer reads as the message that it sent.
   pub written-reads : (m : Message) → readable width m ≡ true → reading width (frame width m) ≡ message m
   pub read-written : (bytes : List ℕ) (m : Message) → Bytes bytes → reading width bytes ≡ message m → frame width m ≡ bytes
+  pub sent-reads : (p : Panel) (payload : List ℕ) (lifetime : ℕ) (output buffer : List ℕ) → length (p .barrier) ≡ 64 → Bytes payload
+      → let result = defined p (send payload lifetime output buffer) in
+      result .number ≡ 0 → reading width (take (result .frameLength) (result .buffer)) ≡ message (newMessage p payload lifetime)
   -- Demand 3: after every list of calls of the module, in place and by value, in which each receive is given a frame that an earlier send of
   -- the list wrote, or is refused. The lists begin with the records that fresh gives.
   pub begins-in-place : BeginsInPlace
@@ -54,6 +60,7 @@ demands =
       refusals = refusal-unchanged;
       written-reads = λ m e. reading-frame width m (omega arith, omega arith) e;
       read-written = λ bytes m b e. frame-reading width bytes m b e;
+      sent-reads = sent-reads;
       begins-in-place = λ κs given answer ended learnt within. learnt .1 ∙ freshRecord-within (given .0) within;
       begins-by-value = λ κs given answer ended learnt within. learnt .1 ∙ freshRecord-within (given .0) within;
       every-list = λ list follows lawful. demand-3 (map madeOf list) lawful (follows-promised list follows);

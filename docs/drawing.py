@@ -7,6 +7,7 @@ HARD = "\u00a0"  # a blank at which no line ends
 
 
 # The widths of letters, in parts of the font's size: for each letter that of the widest of DejaVu Sans, Verdana and Liberation Sans (Arial), rounded up.
+# (Those of Verdana were not measured, as the font is not free; the picture was looked at in the other two.)
 # A machine without Helvetica and Arial shows the picture in one of the first two, so that is what it is laid out for.
 PLAIN = {0.28: "'il", 0.36: " fj·", 0.40: ",.t", 0.44: "!Ir", 0.48: '"()-/:;[]|', 0.56: "?JLcsz", 0.60: "kvxy", 0.72: "ABEKPSVXYZ", 0.80: "&CDGHNOQRU",
          0.84: "#+<=>w×", 0.88: "M", 1.00: "Wm▲▼"}

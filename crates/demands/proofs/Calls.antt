@@ -1,4 +1,4 @@
--- The theorems of all public calls. Assumes nothing.
+-- The theorems of all public calls, and of `write`, which a send calls. Assumes nothing.
 use Rattle.exports.proofs.panel_fresh_parts.Statement as panel-fresh-parts
 use Rattle.exports.proofs.panel_fresh_parts.Met as panel-fresh-parts-theorem
 use Rattle.exports.proofs.panel_send_parts.Statement as panel-send-parts
@@ -53,7 +53,7 @@ pub record Calls (M : Type 1) : Type 2 where
   pub panel-send : panel-send.statement M
   pub panel-receive : panel-receive.statement M
   pub panel-clock : panel-clock.statement M
-  -- Frames, read and written (crates/frame/src/lib.rt, crates/writing/src/lib.rt).
+  -- Frames, read (crates/frame/src/lib.rt) and written (crates/writing/src/lib.rt, which is internal).
   pub frame-check : frame-check.statement M
   pub read : read.statement M
   pub payload : payload.statement M

@@ -1,4 +1,4 @@
 -- The steps and the parts of a listing, and what is shown of the whole.
 pub mod Stepping
-pub mod Parts
+pub mod Filling
 pub mod Theorems

@@ -21,8 +21,8 @@ use Rattle.lines.specs.Lines.{item, outcome, frameLine, payloadText, handLine, 
 use Rattle.listing.specs.declared.Listing.{Listing}
 use Rattle.listing.specs.Listing.{State, start, received, linesAt, onward, stateAfter, goesOn, linesFrom, longest, listing}
 use Rattle.listing.specs.Step.{stateOf}
-use Rattle.listing.specs.Part.{linesLeft, PartPut, Parts}
-use Rattle.listing.specs.Part.Parts.{no-part, one-more}
+use Rattle.listing.specs.Part.{linesLeft, PartPut, PartsPut}
+use Rattle.listing.specs.Part.PartsPut.{no-part, one-more}
 
 -- whoever unfolds this unfolds all that a listing is computed by
 opened : Unit {0}
@@ -75,7 +75,7 @@ linesFrom-enough (suc most) bundle s within few =
 -- ---- the parts are together the whole
 
 -- what was put and what is left
-pub parts-left : {bundle parts : List ℕ} {l : Listing} → length bundle ≤ longest → Parts bundle parts l → parts ++ linesLeft bundle l ≡ listing bundle
+pub parts-left : {bundle parts : List ℕ} {l : Listing} → length bundle ≤ longest → PartsPut bundle parts l → parts ++ linesLeft bundle l ≡ listing bundle
 unfolding listing linesLeft
 parts-left {bundle} short (no-part begun on) =
     ap₂ (λ (b : Bool) (s : State). cond b (linesFrom (suc (length bundle)) bundle s) []) on begun
@@ -87,7 +87,7 @@ parts-left {bundle} short (one-more {parts} {given} {text} {l} {after} before pa
 
 -- each part stands in the listing behind the parts before it
 pub part-in-listing : {bundle parts : List ℕ} {given : Listing} {text : List ℕ} {l : Listing} {after : List ℕ} → length bundle ≤ longest
-    → Parts bundle parts given
+    → PartsPut bundle parts given
     → PartPut bundle given text l after
     → take (length (take (l .at) after)) (drop (length parts) (listing bundle)) ≡ take (l .at) after
 part-in-listing {bundle} {parts} {given} {text} {l} {after} short before part =
@@ -98,7 +98,7 @@ part-in-listing {bundle} {parts} {given} {text} {l} {after} short before part =
     ∙ take-at (take (l .at) after) (linesLeft bundle l) (length (take (l .at) after)) refl
 
 -- where nothing is left, the parts put are together the listing
-pub parts-are-listing : {bundle parts : List ℕ} {l : Listing} → length bundle ≤ longest → Parts bundle parts l → l .more ≡ false
+pub parts-are-listing : {bundle parts : List ℕ} {l : Listing} → length bundle ≤ longest → PartsPut bundle parts l → l .more ≡ false
     → parts ≡ listing bundle
 unfolding linesLeft
 parts-are-listing {bundle} {parts} {l} short put over =

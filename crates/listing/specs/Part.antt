@@ -23,8 +23,8 @@ pub record PartPut (bundle : List ℕ) (given : Listing) (text : List ℕ) (l : 
   pub placed : Placed bundle l
 
 -- the parts put one after another, from the start of the listing on, joined; and where the listing stands then
-pub data Parts (bundle : List ℕ) : List ℕ → Listing → Type 0 where
-  no-part : {l : Listing} → stateOf l ≡ start → l .more ≡ true → Parts bundle [] l
-  one-more : {parts : List ℕ} {given : Listing} {text : List ℕ} {l : Listing} {after : List ℕ} → Parts bundle parts given
+pub data PartsPut (bundle : List ℕ) : List ℕ → Listing → Type 0 where
+  no-part : {l : Listing} → stateOf l ≡ start → l .more ≡ true → PartsPut bundle [] l
+  one-more : {parts : List ℕ} {given : Listing} {text : List ℕ} {l : Listing} {after : List ℕ} → PartsPut bundle parts given
       → PartPut bundle given text l after
-      → Parts bundle (parts ++ take (l .at) after) l
+      → PartsPut bundle (parts ++ take (l .at) after) l

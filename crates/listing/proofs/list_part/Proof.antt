@@ -3,7 +3,7 @@ use mathlib.Core.Path.{refl}
 use native.Mathlib.Omega.{arith}
 use borrow.Author.Needs.{needs}
 use Rattle.listing.proofs.Stepping.{never}
-use Rattle.listing.proofs.Parts.{bytesLeft, fewer, Filling, filling-none, filling-step, filled}
+use Rattle.listing.proofs.Filling.{bytesLeft, fewer, Filling, filling-none, filling-step, filled}
 use Rattle.listing.proofs.list_part.Statement.{statement}
 use Rattle.listing.proofs.list_part.Tie as tie
 

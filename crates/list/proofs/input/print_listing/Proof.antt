@@ -12,9 +12,9 @@ use Rattle.text.specs.Text.{ascii}
 use Rattle.listing.specs.declared.Listing.{Listing}
 use Rattle.listing.specs.Listing.{State, start as startState, longest, listing}
 use Rattle.listing.specs.Step.{stateOf, stepRoom, Placed}
-use Rattle.listing.specs.Part.{PartPut, Parts}
-use Rattle.listing.specs.Part.Parts.{no-part, one-more}
-use Rattle.listing.proofs.Parts.{bytesLeft, fewer}
+use Rattle.listing.specs.Part.{PartPut, PartsPut}
+use Rattle.listing.specs.Part.PartsPut.{no-part, one-more}
+use Rattle.listing.proofs.Filling.{bytesLeft, fewer}
 use Rattle.listing.proofs.Theorems.{part-in-listing, parts-are-listing, long-listing}
 use Rattle.list.specs.Written.{BytesAt}
 use Rattle.list.proofs.input.print_listing.Statement.{statement}
@@ -24,7 +24,7 @@ use Rattle.list.proofs.input.print_listing.Tie as tie
 -- its size
 record Printing (input : List ℕ) (size : ℕ) (text : List ℕ) (l : Listing) (written : ℕ) : Type 0 where
   parts : List ℕ
-  put : Parts input parts l
+  put : PartsPut input parts l
   count : written ≡ length parts
   room : length text ≡ size
   few : l .more ≡ true → written ≤ 16384 * l .place

@@ -1,9 +1,11 @@
-// Send, receive and clock by value, for callers in Rattle, thin over those in place. Each accepts any
+// Send, beacon, receive and clock by value, for callers in Rattle, thin over those in place. Each accepts any
 // input; what it promises is that of document 01, for every argument.
+mod beacon;
 mod clock;
 mod receive;
 mod send;
 
+pub use beacon::panel_beacon;
 pub use clock::panel_clock;
 use panel::Panel;
 pub use receive::panel_receive;

@@ -3,6 +3,8 @@ use Rattle.exports.proofs.panel_fresh_parts.Statement as panel-fresh-parts
 use Rattle.exports.proofs.panel_fresh_parts.Met as panel-fresh-parts-theorem
 use Rattle.exports.proofs.panel_send_parts.Statement as panel-send-parts
 use Rattle.exports.proofs.panel_send_parts.Met as panel-send-parts-theorem
+use Rattle.exports.proofs.panel_beacon_parts.Statement as panel-beacon-parts
+use Rattle.exports.proofs.panel_beacon_parts.Met as panel-beacon-parts-theorem
 use Rattle.exports.proofs.panel_receive_parts.Statement as panel-receive-parts
 use Rattle.exports.proofs.panel_receive_parts.Met as panel-receive-parts-theorem
 use Rattle.exports.proofs.panel_clock_parts.Statement as panel-clock-parts
@@ -11,6 +13,8 @@ use Rattle.panel.proofs.panel_fresh.Statement as panel-fresh
 use Rattle.panel.proofs.panel_fresh.Met as panel-fresh-theorem
 use Rattle.by_value.proofs.panel_send.Statement as panel-send
 use Rattle.by_value.proofs.panel_send.Met as panel-send-theorem
+use Rattle.by_value.proofs.panel_beacon.Statement as panel-beacon
+use Rattle.by_value.proofs.panel_beacon.Met as panel-beacon-theorem
 use Rattle.by_value.proofs.panel_receive.Statement as panel-receive
 use Rattle.by_value.proofs.panel_receive.Met as panel-receive-theorem
 use Rattle.by_value.proofs.panel_clock.Statement as panel-clock
@@ -46,11 +50,13 @@ pub record Calls (M : Type 1) : Type 2 where
   -- its lent buffers are those of `defined`, and a refusal leaves every part as it was.
   pub panel-fresh-parts : panel-fresh-parts.statement M
   pub panel-send-parts : panel-send-parts.statement M
+  pub panel-beacon-parts : panel-beacon-parts.statement M
   pub panel-receive-parts : panel-receive-parts.statement M
   pub panel-clock-parts : panel-clock-parts.statement M
   -- The same by value, for callers in Rattle (crates/panel/src/lib.rt, crates/by_value/src): a refusal gives back the very struct.
   pub panel-fresh : panel-fresh.statement M
   pub panel-send : panel-send.statement M
+  pub panel-beacon : panel-beacon.statement M
   pub panel-receive : panel-receive.statement M
   pub panel-clock : panel-clock.statement M
   -- Frames, read (crates/frame/src/lib.rt) and written (crates/writing/src/lib.rt, which is internal).
@@ -74,10 +80,12 @@ calls =
     record {
       panel-fresh-parts = panel-fresh-parts-theorem.met;
       panel-send-parts = panel-send-parts-theorem.met;
+      panel-beacon-parts = panel-beacon-parts-theorem.met;
       panel-receive-parts = panel-receive-parts-theorem.met;
       panel-clock-parts = panel-clock-parts-theorem.met;
       panel-fresh = panel-fresh-theorem.met;
       panel-send = panel-send-theorem.met;
+      panel-beacon = panel-beacon-theorem.met;
       panel-receive = panel-receive-theorem.met;
       panel-clock = panel-clock-theorem.met;
       frame-check = frame-check-theorem.met;

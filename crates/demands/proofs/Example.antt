@@ -7,7 +7,7 @@ use mathlib.Core.List.{List, [], _∷_, _++_, map, List·Memᴰ·head as first}
 use lib.ListN.{drop, replicate}
 use denote.Ref.{RefT}
 use Rattle.rules.specs.Panel.{none64, fresh}
-use Rattle.rules.specs.BenchCases.{of, output, buffer, outputWith, frame1, logged1}
+use Rattle.rules.specs.BenchCases.{of, output, buffer, outputWith, deadline1, frame1, logged1}
 use Rattle.rules.specs.Lists.{framesSent, namesIn, logAt, sends, Given, Lawful}
 use Rattle.rules.proofs.BenchCases.{callsOpened}
 use Rattle.rules.proofs.Shams.{payload-bytes}
@@ -33,7 +33,7 @@ abbrev panel3 : ℕ → ℕ → List ℕ → List ℕ → Panel
 panel3 time high marks barrier = record { own = 3; time = time; high = high; count = 0; marks = marks; barrier = barrier; slots = zeros }
 
 abbrev only3 : List ℕ
-only3 = of ((3, 1300) ∷ [])
+only3 = of ((3, deadline1) ∷ [])
 
 opened : Unit {0}
 unfolding callsOpened fresh frame1 held upFrom framesSent sends namesIn logAt Given GivenTo
@@ -64,7 +64,7 @@ sent = (
   panel-send (
     (some, (some, (some, tt))),
     (panel3 100 0 none64 none64, (lent (0x4f ∷ 0x4b ∷ []), (0, (lent output, (lent buffer, tt))))),
-    record { panel = panel3 100 1300 only3 only3; count = 1; length = 21; number = 0 },
+    record { panel = panel3 100 deadline1 only3 only3; count = 1; length = 21; number = 0 },
     (panel3 100 0 none64 none64, (lent (0x4f ∷ 0x4b ∷ []), (0, (lent (outputWith (logged1 ∷ [])), (lent (frame1 ++ drop 21 buffer), tt))))),
     (refl, λ refused. absurd (refused refl)),
     refl,
@@ -80,7 +80,7 @@ received = (
     (some, (some, (some, (some, (some, (some, (some, tt))))))),
     (0, (0, (lent 0, (lent 0, (lent none64, (lent none64, (lent zeros, (lent frame1, (lent output, tt))))))))),
     record { count = 1; length = 0; number = 0 },
-    (0, (0, (lent 1300, (lent 0, (lent only3, (lent only3, (lent zeros, (lent frame1, (lent (outputWith (logged1 ∷ [])), tt))))))))),
+    (0, (0, (lent deadline1, (lent 0, (lent only3, (lent only3, (lent zeros, (lent frame1, (lent (outputWith (logged1 ∷ [])), tt))))))))),
     (refl, λ refused. absurd (refused refl)),
     refl,
   ),
@@ -98,6 +98,6 @@ unfolding opened clocked sent received example
 example-lawful = (inl (_, first refl, refl), (payload-bytes, (tt, tt)))
 
 -- panel 0's log then holds that message
-pub example-log : logAt 0 (map madeOf example) ≡ record { source = 3; deadline = 1300 } ∷ []
+pub example-log : logAt 0 (map madeOf example) ≡ record { source = 3; deadline = deadline1 } ∷ []
 unfolding opened clocked sent received example
 example-log = refl

@@ -8,7 +8,7 @@ use Rattle.rules.specs.Results.{Promised}
 use Rattle.rules.specs.Lists.{recordAt, AllPromised}
 use Rattle.parts.specs.Record.{Parts, recordOf}
 use Rattle.demands.specs.Runs.{Run, panelOf, resultOf, madeOf}
-use Rattle.demands.specs.Functions.{Ran, panel-send-parts, panel-receive-parts, panel-clock-parts, panel-send, panel-receive, panel-clock}
+use Rattle.demands.specs.Functions.{Ran, panel-send-parts, panel-beacon-parts, panel-receive-parts, panel-clock-parts, panel-send, panel-beacon, panel-receive, panel-clock}
 use Rattle.demands.specs.Lists.{either, GivenTo, Follows}
 
 -- a call gave what it promises
@@ -18,9 +18,11 @@ Kept run = Promised (recordOf (run .given)) (run .call) (resultOf run)
 -- that is the first clause of each function's promise
 ran-kept : (run : Run) → Ran run → Kept run
 ran-kept run (panel-send-parts (κs, given, answer, ended, learnt, made)) = subst Kept made (learnt .0)
+ran-kept run (panel-beacon-parts (κs, given, answer, ended, learnt, made)) = subst Kept made (learnt .0)
 ran-kept run (panel-receive-parts (κs, given, answer, ended, learnt, made)) = subst Kept made (learnt .0)
 ran-kept run (panel-clock-parts (κs, given, answer, ended, learnt, made)) = subst Kept made (learnt .0)
 ran-kept run (panel-send (κs, given, answer, ended, learnt, made)) = subst Kept made (learnt .0)
+ran-kept run (panel-beacon (κs, given, answer, ended, learnt, made)) = subst Kept made (learnt .0)
 ran-kept run (panel-receive (κs, given, answer, ended, learnt, made)) = subst Kept made (learnt .0)
 ran-kept run (panel-clock (κs, given, answer, ended, learnt, made)) = subst Kept made (learnt .0)
 

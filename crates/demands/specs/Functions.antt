@@ -6,17 +6,22 @@ use borrow.Fn.Kinds.{PK, RK, Dens, resT, endedOf, Out}
 use contract.Lifetimes.{Lfts}
 use denote.Ref.{now}
 use denote.Triple.Clauses.{AtExit}
+use Rattle.rules.specs.Calls.{beaconLifetime}
 use Rattle.rules.specs.Results.{send, receive, clock}
 use Rattle.parts.specs.Record.{parts}
 use Rattle.panel.specs.Record.{partsOf}
 use Rattle.exports.proofs.panel_send_parts.Kinds as send-parts
 use Rattle.exports.proofs.panel_send_parts.Reads as send-parts-reads
+use Rattle.exports.proofs.panel_beacon_parts.Kinds as beacon-parts
+use Rattle.exports.proofs.panel_beacon_parts.Reads as beacon-parts-reads
 use Rattle.exports.proofs.panel_receive_parts.Kinds as receive-parts
 use Rattle.exports.proofs.panel_receive_parts.Reads as receive-parts-reads
 use Rattle.exports.proofs.panel_clock_parts.Kinds as clock-parts
 use Rattle.exports.proofs.panel_clock_parts.Reads as clock-parts-reads
 use Rattle.by_value.proofs.panel_send.Kinds as send-value
 use Rattle.by_value.proofs.panel_send.Reads as send-value-reads
+use Rattle.by_value.proofs.panel_beacon.Kinds as beacon-value
+use Rattle.by_value.proofs.panel_beacon.Reads as beacon-value-reads
 use Rattle.by_value.proofs.panel_receive.Kinds as receive-value
 use Rattle.by_value.proofs.panel_receive.Reads as receive-value-reads
 use Rattle.by_value.proofs.panel_clock.Kinds as clock-value
@@ -49,6 +54,14 @@ sendInPlace κs given answer ended =
       output = now output′;
       buffer = now buffer′;
     }
+
+-- a beacon is a send, with the lifetime of a beacon
+abbrev pub beaconInPlace : Makes 8 beacon-parts.ps beacon-parts.r
+beaconInPlace κs given answer ended =
+    let (own, (time, (high, (count, (marks, (barrier, (slots, (payload, buffers)))))))) = given in
+    let (own′, (time′, (high′, (count′, (marks′, (barrier′, (slots′, (payload′, buffers′)))))))) = ended in
+    sendInPlace κs (own, (time, (high, (count, (marks, (barrier, (slots, (payload, (beaconLifetime, buffers))))))))) answer
+    (own′, (time′, (high′, (count′, (marks′, (barrier′, (slots′, (payload′, (beaconLifetime, buffers′)))))))))
 
 abbrev pub receiveInPlace : Makes 7 receive-parts.ps receive-parts.r
 receiveInPlace κs given answer ended =
@@ -91,6 +104,12 @@ sendByValue κs given answer ended =
       buffer = now buffer′;
     }
 
+abbrev pub beaconByValue : Makes 3 beacon-value.ps beacon-value.r
+beaconByValue κs given answer ended =
+    let (panel, (payload, buffers)) = given in
+    let (panel′, (payload′, buffers′)) = ended in
+    sendByValue κs (panel, (payload, (beaconLifetime, buffers))) answer (panel′, (payload′, (beaconLifetime, buffers′)))
+
 abbrev pub receiveByValue : Makes 2 receive-value.ps receive-value.r
 receiveByValue κs given answer ended =
     let (panel, (frame, (output, _))) = given in
@@ -117,12 +136,14 @@ clockByValue κs given answer ended =
       buffer = [];
     }
 
--- ---- a call of the module is a call of one of these six functions
+-- ---- a call of the module is a call of one of these eight functions
 
 pub data Ran (run : Run) : Type 0 where
   panel-send-parts : CallOf 8 send-parts.ps send-parts.r send-parts-reads.Learnt sendInPlace run → Ran run
+  panel-beacon-parts : CallOf 8 beacon-parts.ps beacon-parts.r beacon-parts-reads.Learnt beaconInPlace run → Ran run
   panel-receive-parts : CallOf 7 receive-parts.ps receive-parts.r receive-parts-reads.Learnt receiveInPlace run → Ran run
   panel-clock-parts : CallOf 7 clock-parts.ps clock-parts.r clock-parts-reads.Learnt clockInPlace run → Ran run
   panel-send : CallOf 3 send-value.ps send-value.r send-value-reads.Learnt sendByValue run → Ran run
+  panel-beacon : CallOf 3 beacon-value.ps beacon-value.r beacon-value-reads.Learnt beaconByValue run → Ran run
   panel-receive : CallOf 2 receive-value.ps receive-value.r receive-value-reads.Learnt receiveByValue run → Ran run
   panel-clock : CallOf 1 clock-value.ps clock-value.r clock-value-reads.Learnt clockByValue run → Ran run

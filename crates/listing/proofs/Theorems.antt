@@ -30,7 +30,7 @@ unfolding fresh callsOpened frame1 frame2 bundleOf stepAt ascii digit decimalIn 
 opened = tt
 
 -- 3. "list", given case 2's frame and then case 1's
-pub case-3 : listing (bundleOf (frame2 ∷ frame1 ∷ [])) ≡ ascii "frame 1 taken\nframe 2 taken\nhand 3 1300 4f4b\nhand 3 1301 -\nend\n"
+pub case-3 : listing (bundleOf (frame2 ∷ frame1 ∷ [])) ≡ ascii "frame 1 taken\nframe 2 taken\nhand 3 7300 4f4b\nhand 3 7301 -\nend\n"
 unfolding opened
 case-3 = refl
 

@@ -15,7 +15,7 @@ use Rattle.rules.specs.Settling.{sooner, chosen, choice, without, goOn, 
 use Rattle.rules.specs.Calls.{handAndSettle, sendDeadline, newMessage, sending, receiving, alive, clocking}
 use Rattle.rules.specs.Refusals.{eachReadable, broken, isWaiting, sendChecks, messageChecks, receiveChecks, clockChecks}
 use Rattle.rules.specs.Results.{refused, done, unless, defined}
-use Rattle.rules.specs.BenchCases.{finished, _and_, EachHolds, frame1, case1, frame2, case2, case3, case4, case5, case6, case7, case8, queue, case9, case10, case11, caseOrder, caseUnreached, benchCases}
+use Rattle.rules.specs.BenchCases.{finished, _and_, EachHolds, frame1, case1, frame2, case2, case3, case4, case5, case6, case7, case8, queue, case9, case10, case11, caseBeacon, caseOrder, caseUnreached, benchCases}
 
 -- whoever unfolds these unfolds all definitions: of frames, of a panel's rules, of the calls, and the cases
 unfoldable pub framesOpened : Unit {0}
@@ -31,10 +31,10 @@ unfolding framesOpened rulesOpened handAndSettle sendDeadline newMessage sending
 callsOpened = tt
 
 casesOpened : Unit {0}
-unfolding callsOpened frame1 frame2 queue case1 case2 case3 case4 case5 case6 case7 case8 case9 case10 case11 caseOrder caseUnreached
+unfolding callsOpened frame1 frame2 queue case1 case2 case3 case4 case5 case6 case7 case8 case9 case10 case11 caseBeacon caseOrder caseUnreached
 casesOpened = tt
 
 -- Of every step of every case, the result that the case names is the one that document 01 defines.
 pub bench-cases : EachHolds benchCases
 unfolding casesOpened
-bench-cases = refl and refl and refl and refl and refl and refl and refl and refl and refl and refl and refl and refl and refl and finished
+bench-cases = refl and refl and refl and refl and refl and refl and refl and refl and refl and refl and refl and refl and refl and refl and finished

@@ -15,7 +15,7 @@ use Rattle.rules.specs.Calls.{handAndSettle}
 use Rattle.rules.specs.Results.{Call, send, receive, clock, Result, done, defined}
 use Rattle.rules.specs.Lists.{_isIn_, Made, recordAt, framesSent, framesTaken, sentAt, takenAt, namesIn, logAt, timeAfter, timeAt, LapsedAt, sends, Before, direct, Given, Lawful, ran}
 use Rattle.rules.specs.Demand3.{ExactlyWhen, NoneTwice, NoneAhead}
-use Rattle.rules.specs.BenchCases.{output, buffer, frame1, frame2}
+use Rattle.rules.specs.BenchCases.{output, buffer, deadline1, frame1, deadline2, frame2}
 use Rattle.rules.proofs.BenchCases.{callsOpened}
 use Rattle.rules.proofs.Cause.{LastStep, last}
 
@@ -43,13 +43,13 @@ recordAsItCame p call =
 -- ---- the lists: panel 3 sends the two messages of cases 1 and 2, and panel 0 hears them
 
 pub hold : Name
-hold = record { source = 3; deadline = 1300 }
+hold = record { source = 3; deadline = deadline1 }
 
 pub lifted : Name
-lifted = record { source = 3; deadline = 1301 }
+lifted = record { source = 3; deadline = deadline2 }
 
 holdSent : List (ℕ × Call)
-holdSent = (3, send (0x4f ∷ 0x4b ∷ []) 1300 output buffer) ∷ []
+holdSent = (3, send (0x4f ∷ 0x4b ∷ []) deadline1 output buffer) ∷ []
 
 -- the first is heard
 pub once : (Panel → Call → Result) → List Made

@@ -1,11 +1,12 @@
--- Document 01, "Bench cases" 1 to 11 (12 is of the program). Each case is a list of steps: a record and a call in; the answer, the record and
--- all bytes out. Bytes are written out by hand.
+-- Document 01, "Bench cases" 1 to 11 (12 is of the program), the first three with the deadlines of document 02, W-203. Each case is a list of
+-- steps: a record and a call in; the answer, the record and all bytes out. Bytes are written out by hand.
 use Prim.Native.Nat.{ℕ, zero, suc, _+_, _*_}
 use mathlib.Core.Path.{_≡_}
 use mathlib.Core.List.{List, [], _∷_, _++_, map, flatten}
 use lib.ListN.{length, take, drop, set, replicate}
 use Rattle.frame.specs.Message.{Message, messageOf}
 use Rattle.rules.specs.Panel.{Panel, none64}
+use Rattle.rules.specs.Calls.{beaconLifetime}
 use Rattle.rules.specs.Results.{Call, send, receive, clock, Result, defined}
 
 -- a step: the record and the call that go in, and what comes out
@@ -83,33 +84,39 @@ abbrev pub refusedWith : ℕ → Panel → List ℕ → List ℕ → Result
 refusedWith number panel output buffer =
     record { number = number; panel = panel; count = 0; output = output; frameLength = 0; buffer = buffer }
 
--- ---- 1: panel 3, time 100, sends 4F 4B with lifetime 0: deadline 1300; 21 bytes
+-- ---- 1: panel 3, time 100, sends 4F 4B with lifetime 0: deadline 7300; 21 bytes
+
+abbrev pub deadline1 : ℕ
+deadline1 = 7300
 
 unfoldable pub frame1 : List ℕ
-frame1 = frameFrom (0x03 ∷ 0x00 ∷ 0x00 ∷ 0x05 ∷ 0x14 ∷ zeros8) (0x02 ∷ 0x4f ∷ 0x4b ∷ [])
+frame1 = frameFrom (0x03 ∷ 0x00 ∷ 0x00 ∷ 0x1c ∷ 0x84 ∷ zeros8) (0x02 ∷ 0x4f ∷ 0x4b ∷ [])
 
 abbrev pub logged1 : List ℕ
-logged1 = logged (3 ∷ 0x00 ∷ 0x00 ∷ 0x05 ∷ 0x14 ∷ 2 ∷ 0x4f ∷ 0x4b ∷ [])
+logged1 = logged (3 ∷ 0x00 ∷ 0x00 ∷ 0x1c ∷ 0x84 ∷ 2 ∷ 0x4f ∷ 0x4b ∷ [])
 
 abbrev pub after1 : Panel
-after1 = panelOf 3 100 1300 (of ((3, 1300) ∷ [])) (of ((3, 1300) ∷ [])) []
+after1 = panelOf 3 100 deadline1 (of ((3, deadline1) ∷ [])) (of ((3, deadline1) ∷ [])) []
 
 unfoldable pub case1 : List Step
 case1 = step (panelOf 3 100 0 none64 none64 []) (send (0x4f ∷ 0x4b ∷ []) 0 output buffer) (sent after1 (logged1 ∷ []) frame1) ∷ []
 
--- ---- 2: it then sends an empty payload with lifetime 0: deadline 1301, mask 8, entry 1300, 23 bytes
+-- ---- 2: it then sends an empty payload with lifetime 0: deadline 7301, mask 8, entry 7300, 23 bytes
+
+abbrev pub deadline2 : ℕ
+deadline2 = 7301
 
 unfoldable pub frame2 : List ℕ
 frame2 =
-    frameFrom (0x03 ∷ 0x00 ∷ 0x00 ∷ 0x05 ∷ 0x15 ∷ replicate 7 0x00) (0x08 ∷ 0x00 ∷ 0x00 ∷ 0x05 ∷ 0x14 ∷ 0x00 ∷ [])
+    frameFrom (0x03 ∷ 0x00 ∷ 0x00 ∷ 0x1c ∷ 0x85 ∷ replicate 7 0x00) (0x08 ∷ 0x00 ∷ 0x00 ∷ 0x1c ∷ 0x84 ∷ 0x00 ∷ [])
 
 abbrev pub logged2 : List ℕ
-logged2 = logged (3 ∷ 0x00 ∷ 0x00 ∷ 0x05 ∷ 0x15 ∷ 0 ∷ [])
+logged2 = logged (3 ∷ 0x00 ∷ 0x00 ∷ 0x1c ∷ 0x85 ∷ 0 ∷ [])
 
 unfoldable pub case2 : List Step
 case2 =
     step after1 (send [] 0 output buffer)
-    (sent (panelOf 3 100 1301 (of ((3, 1301) ∷ [])) (of ((3, 1301) ∷ [])) []) (logged2 ∷ []) frame2)
+    (sent (panelOf 3 100 deadline2 (of ((3, deadline2) ∷ [])) (of ((3, deadline2) ∷ [])) []) (logged2 ∷ []) frame2)
     ∷ []
 
 -- ---- 3: a fresh panel 0 is given case 2's frame and then case 1's: both are taken, and the second hands both
@@ -117,9 +124,10 @@ case2 =
 unfoldable pub case3 : List Step
 case3 =
     let fresh0 = panelOf 0 0 0 none64 none64 [] in
-    let one = panelOf 0 0 0 none64 none64 (messageOf 3 1301 (of ((3, 1300) ∷ [])) [] ∷ []) in
+    let one = panelOf 0 0 0 none64 none64 (messageOf 3 deadline2 (of ((3, deadline1) ∷ [])) [] ∷ []) in
     step fresh0 (receive frame2 output) (taken one [])
-    ∷ step one (receive frame1 output) (taken (panelOf 0 0 1301 (of ((3, 1301) ∷ [])) (of ((3, 1301) ∷ [])) []) (logged1 ∷ logged2 ∷ []))
+    ∷ step one (receive frame1 output)
+    (taken (panelOf 0 0 deadline2 (of ((3, deadline2) ∷ [])) (of ((3, deadline2) ∷ [])) []) (logged1 ∷ logged2 ∷ []))
     ∷ []
 
 -- ---- 4: panel 1 at 1000 sends with lifetime 100: 1100; panel 2 at 500 takes it and sends with lifetime 50: 1101, not 550
@@ -202,11 +210,11 @@ case9 =
 unfoldable pub case10 : List Step
 case10 =
     let panel = panelOf 3 0 0 none64 none64 [] in
-    step panel (send (replicate 32 0x09) 0 output buffer)
-    (sent (panelOf 3 0 1200 (of ((3, 1200) ∷ [])) (of ((3, 1200) ∷ [])) [])
-    (logged (3 ∷ 0x00 ∷ 0x00 ∷ 0x04 ∷ 0xb0 ∷ 32 ∷ replicate 32 0x09) ∷ [])
-    (frameFrom (0x03 ∷ 0x00 ∷ 0x00 ∷ 0x04 ∷ 0xb0 ∷ zeros8) (0x20 ∷ replicate 32 0x09)))
-    ∷ step panel (send (replicate 33 0x09) 0 output buffer) (refusedWith 9 panel output buffer)
+    step panel (send (replicate 32 0x09) 5 output buffer)
+    (sent (panelOf 3 0 5 (of ((3, 5) ∷ [])) (of ((3, 5) ∷ [])) [])
+    (logged (3 ∷ 0x00 ∷ 0x00 ∷ 0x00 ∷ 0x05 ∷ 32 ∷ replicate 32 0x09) ∷ [])
+    (frameFrom (0x03 ∷ 0x00 ∷ 0x00 ∷ 0x00 ∷ 0x05 ∷ zeros8) (0x20 ∷ replicate 32 0x09)))
+    ∷ step panel (send (replicate 33 0x09) 5 output buffer) (refusedWith 9 panel output buffer)
     ∷ step panel (receive [] output) (refusedWith 1 panel output [])
     ∷ []
 
@@ -218,6 +226,16 @@ case11 =
     step (panelOf 0 0 0 none64 none64 []) (clock 100 output) (taken panel [])
     ∷ step panel (clock 100 output) (taken panel [])
     ∷ step panel (clock 99 output) (refusedWith 25 panel output [])
+    ∷ []
+
+-- ---- beyond document 01's cases: a beacon. Panel 3, time 100, beacon of 4F 4B: deadline 1300, whatever a lifetime of 0 means
+
+unfoldable pub caseBeacon : List Step
+caseBeacon =
+    let only3 = of ((3, 1300) ∷ []) in
+    step (panelOf 3 100 0 none64 none64 []) (send (0x4f ∷ 0x4b ∷ []) beaconLifetime output buffer)
+    (sent (panelOf 3 100 1300 only3 only3 []) (logged (3 ∷ 0x00 ∷ 0x00 ∷ 0x05 ∷ 0x14 ∷ 2 ∷ 0x4f ∷ 0x4b ∷ []) ∷ [])
+    (frameFrom (0x03 ∷ 0x00 ∷ 0x00 ∷ 0x05 ∷ 0x14 ∷ zeros8) (0x02 ∷ 0x4f ∷ 0x4b ∷ [])))
     ∷ []
 
 -- ---- beyond document 01's cases: the order of refusals. Each call has two faults, of which the first of its list counts
@@ -265,4 +283,4 @@ caseUnreached =
 
 abbrev pub benchCases : List (List Step)
 benchCases =
-    case1 ∷ case2 ∷ case3 ∷ case4 ∷ case5 ∷ case6 ∷ case7 ∷ case8 ∷ case9 ∷ case10 ∷ case11 ∷ caseOrder ∷ caseUnreached ∷ []
+    case1 ∷ case2 ∷ case3 ∷ case4 ∷ case5 ∷ case6 ∷ case7 ∷ case8 ∷ case9 ∷ case10 ∷ case11 ∷ caseBeacon ∷ caseOrder ∷ caseUnreached ∷ []

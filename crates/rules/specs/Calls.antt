@@ -12,9 +12,17 @@ handAndSettle p m = handThen settle p m
 
 -- ---- Send
 
--- lifetime 0 means 1,200
+-- Document 02, W-203: "From now on 0 means 7,200."
+abbrev pub defaultLifetime : ℕ
+defaultLifetime = 7200
+
+-- Document 02, W-203: the status beacon's call "answers in everything as a send with lifetime 1,200".
+abbrev pub beaconLifetime : ℕ
+beaconLifetime = 1200
+
+-- lifetime 0 means the default
 abbrev pub lifetimeOf : ℕ → ℕ
-lifetimeOf zero = 1200
+lifetimeOf zero = defaultLifetime
 lifetimeOf (suc n) = suc n
 
 -- The deadline is the larger of time + lifetime and high + 1.

@@ -2,9 +2,9 @@
 use mathlib.Core.Path.{_≡_}
 use Prim.Native.Nat.{ℕ, zero, suc}
 use native.Mathlib.Omega.{arith}
-use Rattle.rules.specs.Calls.{lifetimeOf}
+use Rattle.rules.specs.Calls.{defaultLifetime, lifetimeOf}
 
-pub lifetimeOf-zero : (lifetime : ℕ) → lifetime ≡ 0 → lifetimeOf lifetime ≡ 1200
+pub lifetimeOf-zero : (lifetime : ℕ) → lifetime ≡ 0 → lifetimeOf lifetime ≡ defaultLifetime
 lifetimeOf-zero lifetime e = rw e
 
 pub lifetimeOf-given : (lifetime : ℕ) → (lifetime ≡ 0 → ⊥) → lifetimeOf lifetime ≡ lifetime

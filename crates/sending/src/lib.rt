@@ -16,14 +16,21 @@ ghost use Rattle.rules.specs.Results.{send};
 ghost use Rattle.parts.specs.Record.{parts, recordOf, PromisedInPlace};
 ghost use Rattle.sending.specs.Checks.{sendChecksOn};
 
-// The larger of time + lifetime and high + 1; lifetime 0 means 1,200.
+// Document 02, W-203: "From now on 0 means 7,200."
+const DEFAULT_LIFETIME: u16 = 7200;
+
+// Document 02, W-203: the status beacon's call "answers in everything as a send with lifetime 1,200".
+pub const BEACON_LIFETIME: u16 = 1200;
+
+// The larger of time + lifetime and high + 1; lifetime 0 means the default.
 fn send_deadline(time: u32, high: u32, lifetime: u16) -> u64
     ensures { λ r. ⌜ r ≡ sendDeadline (recordOf (parts 0 time high 0 [] [] [])) lifetime ⌝ }
 {
-    let mut by_time = time as u64 + lifetime as u64;
+    let mut seconds = lifetime;
     if lifetime == 0 {
-        by_time = time as u64 + 1200;
+        seconds = DEFAULT_LIFETIME;
     }
+    let by_time = time as u64 + seconds as u64;
     let by_high = high as u64 + 1;
     if by_time < by_high {
         return by_high;

@@ -1,6 +1,7 @@
 // Runs the calls by value, each accepted and each refused: bench cases 1, 2, 6 and 11 of document 01,
-// and a panel number above 63. It prints a line for each call; the file stdout beside src/ is what it
+// beacons, and a panel number above 63. It prints a line for each call; the file stdout beside src/ is what it
 // must print. (tests/ runs all bench cases, in place.)
+use by_value::Sent;
 use panel::Panel;
 
 fn print(text: &[u8]) {
@@ -79,20 +80,11 @@ fn clock(p: Panel, time: u32) -> Panel {
     panel
 }
 
-// A send; then a fresh panel 0 receives the frame.
-fn send(p: Panel, payload: &[u8], lifetime: u16) -> Panel {
-    let mut output = [0u8; 1254];
-    let mut buffer = [0u8; 307];
-    let answer = by_value::panel_send(p, payload, lifetime, &mut output, &mut buffer);
+// What a send or a beacon has answered; then a fresh panel 0 receives the frame.
+fn pass_on(label: &[u8], answer: Sent, buffer: &[u8]) -> Panel {
     let panel = answer.panel;
-    let frame = first(&buffer, answer.length);
-    print_answer(
-        b"send at panel ",
-        panel.own,
-        answer.number,
-        answer.count,
-        panel.count,
-    );
+    let frame = first(buffer, answer.length);
+    print_answer(label, panel.own, answer.number, answer.count, panel.count);
     print(b", frame ");
     print_bytes(frame);
     print(b"\n");
@@ -100,9 +92,27 @@ fn send(p: Panel, payload: &[u8], lifetime: u16) -> Panel {
     panel
 }
 
+fn send(p: Panel, payload: &[u8], lifetime: u16) -> Panel {
+    let mut output = [0u8; 1254];
+    let mut buffer = [0u8; 307];
+    let answer = by_value::panel_send(p, payload, lifetime, &mut output, &mut buffer);
+    pass_on(b"send at panel ", answer, &buffer)
+}
+
+fn beacon(p: Panel, payload: &[u8]) -> Panel {
+    let mut output = [0u8; 1254];
+    let mut buffer = [0u8; 307];
+    let answer = by_value::panel_beacon(p, payload, &mut output, &mut buffer);
+    pass_on(b"beacon at panel ", answer, &buffer)
+}
+
 fn main() {
     print(b"cases 1 and 2\n");
     send(send(clock(fresh(3), 100), b"OK", 0), b"", 0);
+    print(b"a beacon\n");
+    beacon(clock(fresh(3), 100), b"OK");
+    print(b"beacons up to the last deadline\n");
+    beacon(beacon(clock(fresh(0), 4294966095), b""), b"");
     print(b"case 6\n");
     send(send(clock(fresh(0), 4294967294), b"", 1), b"", 1);
     print(b"case 11\n");

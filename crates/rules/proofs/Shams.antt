@@ -42,10 +42,10 @@ recordAsItCame p call =
 
 -- ---- the lists: panel 3 sends the two messages of cases 1 and 2, and panel 0 hears them
 
-pub hold : Name
+unfoldable pub hold : Name
 hold = record { source = 3; deadline = deadline1 }
 
-pub lifted : Name
+unfoldable pub lifted : Name
 lifted = record { source = 3; deadline = deadline2 }
 
 holdSent : List (ℕ × Call)
@@ -78,7 +78,7 @@ pub payload-bytes : Bytes (0x4f ∷ 0x4b ∷ [])
 unfolding eachBelow
 payload-bytes = eachBelow-lt 256 (0x4f ∷ 0x4b ∷ []) (omega arith) refl
 
-empty-bytes : Bytes []
+pub empty-bytes : Bytes []
 empty-bytes i = omega arith
 
 pub once-lawful : Lawful (once holdsBack)

@@ -1,8 +1,8 @@
 // The status beacon by value: in everything a send of this payload with the lifetime of a beacon.
 use crate::Sent;
 use crate::panel_send;
+use lifetimes::BEACON_LIFETIME;
 use panel::Panel;
-use sending::BEACON_LIFETIME;
 ghost use Rattle.rules.specs.Calls.{beaconLifetime};
 ghost use Rattle.rules.specs.Results.{Promised, send};
 ghost use Rattle.panel.specs.Record.{recordOf, GivenBack};

@@ -3,8 +3,8 @@ use Rattle.exports.proofs.panel_fresh_parts.Statement as panel-fresh-parts
 use Rattle.exports.proofs.panel_fresh_parts.Met as panel-fresh-parts-theorem
 use Rattle.exports.proofs.panel_send_parts.Statement as panel-send-parts
 use Rattle.exports.proofs.panel_send_parts.Met as panel-send-parts-theorem
-use Rattle.exports.proofs.panel_beacon_parts.Statement as panel-beacon-parts
-use Rattle.exports.proofs.panel_beacon_parts.Met as panel-beacon-parts-theorem
+use Rattle.beacon.proofs.panel_beacon_parts.Statement as panel-beacon-parts
+use Rattle.beacon.proofs.panel_beacon_parts.Met as panel-beacon-parts-theorem
 use Rattle.exports.proofs.panel_receive_parts.Statement as panel-receive-parts
 use Rattle.exports.proofs.panel_receive_parts.Met as panel-receive-parts-theorem
 use Rattle.exports.proofs.panel_clock_parts.Statement as panel-clock-parts

@@ -12,8 +12,8 @@ use Rattle.parts.specs.Record.{parts}
 use Rattle.panel.specs.Record.{partsOf}
 use Rattle.exports.proofs.panel_send_parts.Kinds as send-parts
 use Rattle.exports.proofs.panel_send_parts.Reads as send-parts-reads
-use Rattle.exports.proofs.panel_beacon_parts.Kinds as beacon-parts
-use Rattle.exports.proofs.panel_beacon_parts.Reads as beacon-parts-reads
+use Rattle.beacon.proofs.panel_beacon_parts.Kinds as beacon-parts
+use Rattle.beacon.proofs.panel_beacon_parts.Reads as beacon-parts-reads
 use Rattle.exports.proofs.panel_receive_parts.Kinds as receive-parts
 use Rattle.exports.proofs.panel_receive_parts.Reads as receive-parts-reads
 use Rattle.exports.proofs.panel_clock_parts.Kinds as clock-parts

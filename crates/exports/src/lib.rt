@@ -4,10 +4,8 @@
 use clocking::clock_in_place;
 use parts::Answer;
 use receiving::receive_in_place;
-use sending::BEACON_LIFETIME;
 use sending::send_in_place;
 ghost use mathlib.Core.List.{[]};
-ghost use Rattle.rules.specs.Calls.{beaconLifetime};
 ghost use Rattle.rules.specs.Results.{send, receive, clock};
 ghost use Rattle.parts.specs.Record.{parts, PromisedInPlace};
 ghost use Rattle.exports.specs.Fresh.{FreshInPlace};
@@ -72,41 +70,6 @@ pub extern "C" fn panel_send_parts(
         slots,
         payload,
         lifetime,
-        output,
-        buffer,
-    )
-}
-
-// The status beacon: in everything a send of this payload with the lifetime of a beacon.
-#[no_mangle]
-pub extern "C" fn panel_beacon_parts(
-    own: u8,
-    time: u32,
-    high: &mut u32,
-    count: &mut usize,
-    marks: &mut [u32; 64],
-    barrier: &mut [u32; 64],
-    slots: &mut [u8; 9888],
-    payload: &[u8],
-    output: &mut [u8],
-    buffer: &mut [u8],
-) -> Answer
-    ensures { λ r. ⌜ PromisedInPlace
-        (parts own time (now (high .entry)) (now (count .entry)) (now (marks .entry)) (now (barrier .entry)) (now (slots .entry)))
-        (send (now (payload .entry)) beaconLifetime (now (output .entry)) (now (buffer .entry))) r
-        (parts own time (now (high .exit)) (now (count .exit)) (now (marks .exit)) (now (barrier .exit)) (now (slots .exit)))
-        (now (output .exit)) (now (buffer .exit)) ⌝ }
-{
-    send_in_place(
-        own,
-        time,
-        high,
-        count,
-        marks,
-        barrier,
-        slots,
-        payload,
-        BEACON_LIFETIME,
         output,
         buffer,
     )

@@ -1,3 +1,2 @@
--- Laws of a send: the lifetime, and its answer.
-pub mod Lifetime
+-- What a send answers.
 pub mod SendDone

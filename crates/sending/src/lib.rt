@@ -3,40 +3,17 @@
 // input, and what it promises is document 01's send, for every argument. An internal crate: `exports`
 // and `by_value` have the public calls.
 use handing::hand;
+use lifetimes::send_deadline;
 use parts::Answer;
 use parts::broken;
 use parts::settle_slots;
 use slots::in_order;
 use writing::write;
 ghost use mathlib.Core.Path.{_≡_};
-ghost use mathlib.Core.List.{[]};
 ghost use Rattle.frame.specs.Refusal.{firstOf};
-ghost use Rattle.rules.specs.Calls.{sendDeadline};
 ghost use Rattle.rules.specs.Results.{send};
-ghost use Rattle.parts.specs.Record.{parts, recordOf, PromisedInPlace};
+ghost use Rattle.parts.specs.Record.{parts, PromisedInPlace};
 ghost use Rattle.sending.specs.Checks.{sendChecksOn};
-
-// Document 02, W-203: "From now on 0 means 7,200."
-const DEFAULT_LIFETIME: u16 = 7200;
-
-// Document 02, W-203: the status beacon's call "answers in everything as a send with lifetime 1,200".
-pub const BEACON_LIFETIME: u16 = 1200;
-
-// The larger of time + lifetime and high + 1; lifetime 0 means the default.
-fn send_deadline(time: u32, high: u32, lifetime: u16) -> u64
-    ensures { λ r. ⌜ r ≡ sendDeadline (recordOf (parts 0 time high 0 [] [] [])) lifetime ⌝ }
-{
-    let mut seconds = lifetime;
-    if lifetime == 0 {
-        seconds = DEFAULT_LIFETIME;
-    }
-    let by_time = time as u64 + seconds as u64;
-    let by_high = high as u64 + 1;
-    if by_time < by_high {
-        return by_high;
-    }
-    by_time
-}
 
 // The number of the first check that turns down a send, or 0: 26, 10, 9, 24.
 fn send_number(broken: bool, output: usize, buffer: usize, payload: usize, deadline: u64) -> u8

@@ -1,7 +1,7 @@
--- `exports::panel_beacon_parts` meets its contract, which is that of the send that it makes. Assumes nothing.
+-- `beacon::panel_beacon_parts` meets its contract, which is that of the send that it makes. Assumes nothing.
 use borrow.Author.Needs.{needs}
-use Rattle.exports.proofs.panel_beacon_parts.Statement.{statement}
-use Rattle.exports.proofs.panel_beacon_parts.Tie as tie
+use Rattle.beacon.proofs.panel_beacon_parts.Statement.{statement}
+use Rattle.beacon.proofs.panel_beacon_parts.Tie as tie
 
 send-in-place-requires : tie.Need-send-in-place-requires
 send-in-place-requires c κs = search needs

@@ -1,12 +1,12 @@
--- `sending::send_deadline` meets its contract: the larger of the two sums is the definition's. Assumes nothing.
+-- `lifetimes::send_deadline` meets its contract: the larger of the two sums is the definition's. Assumes nothing.
 use mathlib.Core.Path.{_≡_, sym, _∙_}
 use mathlib.Core.Logic.{⊎-elim}
 use native.Mathlib.Omega.{arith}
 use borrow.Author.Needs.{needs}
 use Rattle.rules.specs.Calls.{lifetimeOf, sendDeadline}
-use Rattle.sending.proofs.Lifetime.{lifetimeOf-zero, lifetimeOf-given}
-use Rattle.sending.proofs.send_deadline.Statement.{statement}
-use Rattle.sending.proofs.send_deadline.Tie as tie
+use Rattle.lifetimes.proofs.Lifetime.{lifetimeOf-zero, lifetimeOf-given}
+use Rattle.lifetimes.proofs.send_deadline.Statement.{statement}
+use Rattle.lifetimes.proofs.send_deadline.Tie as tie
 
 add-by-time : tie.Need-add-by-time
 add-by-time c = search needs

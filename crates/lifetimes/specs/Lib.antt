@@ -1,0 +1,2 @@
+-- The record that the deadline of a send is taken from.
+pub mod Record

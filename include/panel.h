@@ -2,12 +2,13 @@
  * The causal message module of the dryer panel, for C11 and C++11. Document 01 specifies it.
  *
  * Each panel of a farm keeps a record. panel_fresh makes it; panel_send writes the frame of an own
- * message, panel_receive takes a frame that came in, panel_clock sets the time. Each of these three
- * hands messages: it writes their log records, in the order of cause. A message that comes before
- * its cause waits in the record. panel_log_record reads a log, panel_bundle_next a bundle of
- * frames, and panel_frame_check looks at the bytes of a frame alone.
+ * message, panel_beacon that of a status beacon, panel_receive takes a frame that came in,
+ * panel_clock sets the time. Each of these four hands messages: it writes their log records, in the
+ * order of cause. A message that comes before its cause waits in the record. panel_log_record reads
+ * a log, panel_bundle_next a bundle of frames, and panel_frame_check looks at the bytes of a frame
+ * alone.
  *
- * Example, a whole program. It prints "3 1200 OK" and "21 bytes to pass on". Compile it with
+ * Example, a whole program. It prints "3 7200 OK" and "21 bytes to pass on". Compile it with
  * cc program.c $(pkg-config --cflags --libs panel)   (-lpanel alone may find ncurses' libpanel).
  *
  *     #include <panel.h>
@@ -53,7 +54,7 @@
  * sizeof(Panel) bytes and read back by the same version of this header. Go on with the record as
  * the last call left it, never with an older copy, which would hand messages again and give out a
  * deadline twice: so save it, and the log records, before the frame is passed on. A record that is
- * broken, as the words of 26 say, is refused with that number by each of the three calls. Other
+ * broken, as the words of 26 say, is refused with that number by each of the four calls. Other
  * damage, as in the time, they can't see: keep a checksum beside the record.
  *
  * Processor. The archive is for x86-64 with the System V calling convention, as on 64-bit Linux,
@@ -78,11 +79,12 @@ extern "C" {
 /* ---- Version ---- */
 
 /* Major 0, as the layout of the record still changes with coming versions: a record that another
-   version saved is not to be read. Frames, bundles and logs stay as document 01 has them. */
+   version saved is not to be read. (0.3 has the layout of 0.2, and reads its records.) Frames,
+   bundles and logs stay as document 01 has them. */
 #define PANEL_VERSION_MAJOR 0
-#define PANEL_VERSION_MINOR 2
+#define PANEL_VERSION_MINOR 3
 #define PANEL_VERSION_PATCH 0
-#define PANEL_VERSION "0.2.0"
+#define PANEL_VERSION "0.3.0"
 
 /* ---- Sizes ---- */
 
@@ -93,7 +95,8 @@ enum {
     PANEL_PANELS = 64,             /* panels of a farm, numbered from 0 */
     PANEL_WAITING_MAX = 32,        /* messages that may wait at a panel */
     PANEL_PAYLOAD_MAX = 32,        /* bytes of a payload */
-    PANEL_LIFETIME_DEFAULT = 1200, /* seconds that a lifetime of 0 means */
+    PANEL_LIFETIME_DEFAULT = 7200, /* seconds that a lifetime of 0 means */
+    PANEL_LIFETIME_BEACON = 1200,  /* seconds of a beacon's lifetime */
     PANEL_FRAME_MIN = 19,          /* bytes of the shortest frame */
     PANEL_FRAME_MAX = 307,         /* bytes of the longest, and of the frame buffer at least */
     PANEL_OUTPUT_MIN = 1254,       /* bytes of the output at least: 33 log records */
@@ -180,17 +183,18 @@ typedef struct Panel {
 PANEL_ANSWER PANEL_NOT_NULL
 static inline PanelNumber panel_fresh(Panel *panel, uint8_t number);
 
-/* ---- Send, receive and clock ---- */
+/* ---- Send, beacon, receive and clock ---- */
 
 typedef struct PanelAnswer {
     size_t count;       /* how many log records stand in the output */
-    size_t length;      /* how many bytes of a frame stand in the frame buffer, 0 but for a send */
+    size_t length;      /* how many bytes of a frame stand in the frame buffer, 0 but for a send
+                           or a beacon */
     PanelNumber number; /* 0, or that of the refusal */
 } PanelAnswer;
 
 /*
  * Sends a payload of 0 to 32 bytes. The deadline of the message is the larger of time + lifetime
- * (0 means 1,200) and high + 1. Its frame stands at the start of the frame buffer, `length` bytes,
+ * (0 means 7,200) and high + 1. Its frame stands at the start of the frame buffer, `length` bytes,
  * and carries the barrier entries as they were. Then the barrier is emptied, the own message is
  * handed, and the panel settles: `count` log records, 1 to 33, stand one after another from the
  * start of the output, the own message first. Bytes behind the frame and behind the log records
@@ -201,6 +205,18 @@ PANEL_ANSWER PANEL_NOT_NULL
 static inline PanelAnswer panel_send(Panel *panel, const uint8_t *payload, size_t payload_length,
                                      uint16_t lifetime, uint8_t *output, size_t output_length,
                                      uint8_t *frame, size_t frame_length);
+
+/*
+ * Sends a status beacon, such as "fan 2 runs": in everything as panel_send with lifetime
+ * PANEL_LIFETIME_BEACON, whatever a lifetime of 0 means. Its deadline, as that of every send, is
+ * above the largest in the log: after a note with a longer lifetime, sent or received, the beacon
+ * lapses just after that note, not 1,200 seconds from now.
+ * Refused with the first of 26, 10, 9, 24 that applies.
+ */
+PANEL_ANSWER PANEL_NOT_NULL
+static inline PanelAnswer panel_beacon(Panel *panel, const uint8_t *payload, size_t payload_length,
+                                       uint8_t *output, size_t output_length, uint8_t *frame,
+                                       size_t frame_length);
 
 /*
  * Receives a frame, whole or damaged, of any length. Its message is handed if it is ready, that is
@@ -310,6 +326,12 @@ PanelPartsAnswer panel_send_parts(uint8_t own, uint32_t time, uint32_t *high, si
                                   const uint8_t *payload, size_t payload_length, uint16_t lifetime,
                                   uint8_t *output, size_t output_length, uint8_t *frame,
                                   size_t frame_length);
+
+PANEL_NOT_NULL
+PanelPartsAnswer panel_beacon_parts(uint8_t own, uint32_t time, uint32_t *high, size_t *count,
+                                    uint32_t *marks, uint32_t *barrier, uint8_t *slots,
+                                    const uint8_t *payload, size_t payload_length, uint8_t *output,
+                                    size_t output_length, uint8_t *frame, size_t frame_length);
 
 PANEL_NOT_NULL
 PanelPartsAnswer panel_receive_parts(uint8_t own, uint32_t time, uint32_t *high, size_t *count,
@@ -435,6 +457,16 @@ static inline PanelAnswer panel_send(Panel *panel, const uint8_t *payload, size_
                                             panel->marks, panel->barrier, panel->slots, payload,
                                             payload_length, lifetime, output, output_length, frame,
                                             frame_length));
+}
+
+static inline PanelAnswer panel_beacon(Panel *panel, const uint8_t *payload, size_t payload_length,
+                                       uint8_t *output, size_t output_length, uint8_t *frame,
+                                       size_t frame_length)
+{
+    return panel_answer_of(panel_beacon_parts(panel->own, panel->time, &panel->high, &panel->count,
+                                              panel->marks, panel->barrier, panel->slots, payload,
+                                              payload_length, output, output_length, frame,
+                                              frame_length));
 }
 
 static inline PanelAnswer panel_receive(Panel *panel, const uint8_t *frame, size_t frame_length,

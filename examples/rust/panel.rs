@@ -21,7 +21,9 @@ pub const WAITING_MAX: usize = 32;
 /// Bytes of a payload.
 pub const PAYLOAD_MAX: usize = 32;
 /// Seconds that a lifetime of 0 means.
-pub const LIFETIME_DEFAULT: u16 = 1200;
+pub const LIFETIME_DEFAULT: u16 = 7200;
+/// Seconds of a beacon's lifetime.
+pub const LIFETIME_BEACON: u16 = 1200;
 /// Bytes of the longest frame.
 pub const FRAME_MAX: usize = 307;
 /// Bytes of a log record.
@@ -102,6 +104,21 @@ mod archive {
             payload: *const u8,
             payload_length: usize,
             lifetime: u16,
+            output: *mut u8,
+            output_length: usize,
+            frame: *mut u8,
+            frame_length: usize,
+        ) -> Answer;
+        pub fn panel_beacon_parts(
+            own: u8,
+            time: u32,
+            high: &mut u32,
+            count: &mut usize,
+            marks: &mut [u32; PANELS],
+            barrier: &mut [u32; PANELS],
+            slots: &mut [u8; SLOTS],
+            payload: *const u8,
+            payload_length: usize,
             output: *mut u8,
             output_length: usize,
             frame: *mut u8,
@@ -443,7 +460,7 @@ impl Panel {
         Ok(panel)
     }
 
-    /// Sends a payload of at most 32 bytes; a lifetime of 0 means 1,200 seconds. The first of the
+    /// Sends a payload of at most 32 bytes; a lifetime of 0 means 7,200 seconds. The first of the
     /// log records is that of the message sent.
     pub fn send(&mut self, payload: &[u8], lifetime: u16) -> Result<(Frame, Log), Refusal> {
         let mut frame = Frame::new();
@@ -462,6 +479,37 @@ impl Panel {
                 payload.as_ptr(),
                 payload.len(),
                 lifetime,
+                log.bytes.as_mut_ptr(),
+                log.bytes.len(),
+                frame.bytes.as_mut_ptr(),
+                frame.bytes.len(),
+            )
+        };
+        accepted(answer.number)?;
+        frame.length = answer.length;
+        log.count = answer.count;
+        Ok((frame, log))
+    }
+
+    /// Sends a status beacon, such as "fan 2 runs": in everything as `send` with lifetime
+    /// `LIFETIME_BEACON`, whatever a lifetime of 0 means. Its deadline, as that of every send, is
+    /// above the largest in the log: after a note with a longer lifetime, sent or received, the
+    /// beacon lapses just after that note, not 1,200 seconds from now.
+    pub fn beacon(&mut self, payload: &[u8]) -> Result<(Frame, Log), Refusal> {
+        let mut frame = Frame::new();
+        let mut log = Log::new();
+        // SAFETY: as in `send`.
+        let answer = unsafe {
+            archive::panel_beacon_parts(
+                self.own,
+                self.time,
+                &mut self.high,
+                &mut self.count,
+                &mut self.marks,
+                &mut self.barrier,
+                &mut self.slots,
+                payload.as_ptr(),
+                payload.len(),
                 log.bytes.as_mut_ptr(),
                 log.bytes.len(),
                 frame.bytes.as_mut_ptr(),

@@ -17,11 +17,12 @@ typedef struct {
     size_t logged;
 } Member;
 
-/* A frame on its way from panel to panel, and the text in it, for printing. */
+/* A frame on its way from panel to panel, and the text and the deadline of its message. */
 typedef struct {
     uint8_t bytes[PANEL_FRAME_MAX];
     size_t length;
     const char *text;
+    uint32_t deadline;
 } Parcel;
 
 /* A tractor cab, and the bundle that it carries. */
@@ -77,7 +78,16 @@ static void start(Member *member, uint8_t number, uint32_t time)
     set_clock(member, time);
 }
 
-/* A panel sends a text, with the lifetime that 0 stands for. */
+/* What a panel does when it has sent a message or a beacon: the first log record is its own. */
+static void sent(Member *member, PanelAnswer answer, const uint8_t *output, Parcel *parcel)
+{
+    keep(member, output, answer.count);
+    parcel->length = answer.length;
+    parcel->deadline = panel_log_record(output, PANEL_OUTPUT_MIN, 0).deadline;
+    printf("\"%s\" with deadline %u\n", parcel->text, parcel->deadline);
+}
+
+/* A panel sends a note for operators, with the lifetime that 0 stands for. */
 static Parcel send_text(Member *member, const char *text)
 {
     uint8_t output[PANEL_OUTPUT_MIN];
@@ -86,11 +96,22 @@ static Parcel send_text(Member *member, const char *text)
     PanelAnswer answer = panel_send(&member->record, (const uint8_t *)text, strlen(text), 0, output,
                                     sizeof output, parcel.bytes, sizeof parcel.bytes);
     must_be_accepted("panel_send", answer.number);
-    keep(member, output, answer.count);
-    parcel.length = answer.length;
-    /* the first log record of a send is that of the message sent */
-    printf("panel %u sends \"%s\" with deadline %u\n", member->record.own, text,
-           panel_log_record(output, sizeof output, 0).deadline);
+    printf("panel %u sends ", member->record.own);
+    sent(member, answer, output, &parcel);
+    return parcel;
+}
+
+/* A panel sends its status, which nobody needs when it is old: a beacon lapses soon. */
+static Parcel send_beacon(Member *member, const char *text)
+{
+    uint8_t output[PANEL_OUTPUT_MIN];
+    Parcel parcel = {.text = text};
+
+    PanelAnswer answer = panel_beacon(&member->record, (const uint8_t *)text, strlen(text), output,
+                                      sizeof output, parcel.bytes, sizeof parcel.bytes);
+    must_be_accepted("panel_beacon", answer.number);
+    printf("panel %u sends the beacon ", member->record.own);
+    sent(member, answer, output, &parcel);
     return parcel;
 }
 
@@ -180,8 +201,21 @@ static void too_late(Member *from, Member *to)
     Parcel fan_on = send_text(from, "fan 2 on");
     Parcel fan_off = send_text(from, "fan 2 off");
     receive(to, &fan_off);
-    set_clock(to, 1500);
+    set_clock(to, fan_off.deadline + 1);
     receive(to, &fan_on);
+}
+
+/*
+ * A panel that lacks a beacon holds back the note that was sent after it until the beacon lapses.
+ * That is soon: sent with lifetime 0, it would hold the note back to the last second of its life.
+ */
+static void beacon_lapses(Member *from, Member *to)
+{
+    Parcel beacon = send_beacon(from, "dryer 9 runs");
+    Parcel note = send_text(from, "hold batch 7");
+    receive(to, &note);
+    set_clock(to, beacon.deadline + 1);
+    receive(to, &beacon);
 }
 
 int main(void)
@@ -210,6 +244,9 @@ int main(void)
 
     by_cab(&five, &nine);
     too_late(&three, &nine);
+
+    /* the deadlines in the log of panel 9 have passed, so its beacon lapses as soon as one can */
+    beacon_lapses(&nine, &five);
 
     print_log(&three);
     print_log(&five);

@@ -10,10 +10,11 @@ struct Member {
     log: Vec<u8>,
 }
 
-/// A frame on its way from panel to panel, and the text in it, for printing.
+/// A frame on its way from panel to panel, and the text and the deadline of its message.
 struct Parcel {
     frame: Frame,
     text: &'static str,
+    deadline: u32,
 }
 
 impl Member {
@@ -46,19 +47,30 @@ impl Member {
         Ok(())
     }
 
-    /// Sends a text, with the lifetime that 0 stands for.
-    fn send(&mut self, text: &'static str) -> Result<Parcel, Refusal> {
-        let (frame, log) = self.panel.send(text.as_bytes(), 0)?;
+    /// What a panel does when it has sent a message or a beacon: the first log record is its own.
+    fn sent(&mut self, (frame, log): (Frame, Log), text: &'static str) -> Parcel {
         self.keep(&log);
-        // the first log record of a send is that of the message sent
-        if let Some(record) = log.records().next() {
-            println!(
-                "panel {} sends \"{text}\" with deadline {}",
-                self.panel.own(),
-                record.deadline
-            );
+        let deadline = log.records().next().map_or(0, |record| record.deadline);
+        println!("\"{text}\" with deadline {deadline}");
+        Parcel {
+            frame,
+            text,
+            deadline,
         }
-        Ok(Parcel { frame, text })
+    }
+
+    /// Sends a note for operators, with the lifetime that 0 stands for.
+    fn send(&mut self, text: &'static str) -> Result<Parcel, Refusal> {
+        let given = self.panel.send(text.as_bytes(), 0)?;
+        print!("panel {} sends ", self.panel.own());
+        Ok(self.sent(given, text))
+    }
+
+    /// Sends its status, which nobody needs when it is old: a beacon lapses soon.
+    fn beacon(&mut self, text: &'static str) -> Result<Parcel, Refusal> {
+        let given = self.panel.beacon(text.as_bytes())?;
+        print!("panel {} sends the beacon ", self.panel.own());
+        Ok(self.sent(given, text))
     }
 
     /// A frame comes in. Here a refusal is no mistake: copies and late frames are usual.
@@ -137,8 +149,19 @@ fn too_late(from: &mut Member, to: &mut Member) -> Result<(), Refusal> {
     let fan_on = from.send("fan 2 on")?;
     let fan_off = from.send("fan 2 off")?;
     to.receive(&fan_off);
-    to.set_clock(1500)?;
+    to.set_clock(fan_off.deadline + 1)?;
     to.receive(&fan_on);
+    Ok(())
+}
+
+/// A panel that lacks a beacon holds back the note that was sent after it until the beacon lapses.
+/// That is soon: sent with lifetime 0, it would hold the note back to the last second of its life.
+fn beacon_lapses(from: &mut Member, to: &mut Member) -> Result<(), Refusal> {
+    let beacon = from.beacon("dryer 9 runs")?;
+    let note = from.send("hold batch 7")?;
+    to.receive(&note);
+    to.set_clock(beacon.deadline + 1)?;
+    to.receive(&beacon);
     Ok(())
 }
 
@@ -165,6 +188,9 @@ fn story() -> Result<(), Refusal> {
 
     by_cab(&mut five, &mut nine)?;
     too_late(&mut three, &mut nine)?;
+
+    // the deadlines in the log of panel 9 have passed, so its beacon lapses as soon as one can
+    beacon_lapses(&mut nine, &mut five)?;
 
     three.print_log();
     five.print_log();

@@ -27,16 +27,19 @@ def bundle(*frames):
     return b"".join(struct.pack(">H", len(f)) + f for f in frames)
 
 
+# Deadlines of messages with lifetime 0: one of panel 3 at time 100, one sent by whoever has that, and one of panel 3 at time 200.
+DUE, NEXT_DUE, LATER_DUE = 7300, 7301, 7400
+
 # Panel 3 holds a batch; panel 5, which has read that, reports the moisture; panel 3, which has read
 # that, lifts the hold. They come in the wrong order, with a damaged copy and one more copy.
-HOLD = frame(3, 1300, payload=b"hold batch 6")
-MOISTURE = frame(5, 1301, {3: 1300}, b"moisture 19")
-LIFTED = frame(3, 1400, {3: 1300, 5: 1301}, b"hold lifted")
+HOLD = frame(3, DUE, payload=b"hold batch 6")
+MOISTURE = frame(5, NEXT_DUE, {3: DUE}, b"moisture 19")
+LIFTED = frame(3, LATER_DUE, {3: DUE, 5: NEXT_DUE}, b"hold lifted")
 HARVEST = bundle(LIFTED, MOISTURE, b"DRX" + HOLD[3:], HOLD, MOISTURE)
 
-# Bench cases 1 and 2 of document 01.
-FIRST = frame(3, 1300, payload=b"OK")
-SECOND = frame(3, 1301, {3: 1300})
+# Bench cases 1 and 2 of document 01, with the deadlines of document 02, W-203.
+FIRST = frame(3, DUE, payload=b"OK")
+SECOND = frame(3, NEXT_DUE, {3: DUE})
 
 # 32 messages that wait for one of panel 1, which comes last.
 WAITING = [frame(2, 100 + i, {1: 50}) for i in range(32)]

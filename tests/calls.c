@@ -1,7 +1,7 @@
 /*
- * The calls as a C program sees them: bench cases 1, 2 and 4 to 11 of document 01, every refusal
- * and the order of refusals, and what a call leaves as it was. Frames and log records are written
- * in hexadecimal, from document 01 by hand.
+ * The calls as a C program sees them: bench cases 1, 2 and 4 to 11 of document 01, the first two
+ * with the deadlines of document 02, W-203; beacons; every refusal and the order of refusals, and
+ * what a call leaves as it was. Frames and log records are written in hexadecimal, by hand.
  */
 #include "checks.h"
 #include "panel.h"
@@ -11,11 +11,13 @@
 
 /* ---- Checks ---- */
 
-static bool seen[256]; /* which numbers were answered */
+typedef enum { FRESH, SEND, BEACON, RECEIVE, CLOCK, CALLS } Call;
 
-static void same_answer(int line, PanelNumber given, PanelNumber expected)
+static bool seen[CALLS][256]; /* which numbers each call answered */
+
+static void same_answer(int line, Call by, PanelNumber given, PanelNumber expected)
 {
-    seen[given] = true;
+    seen[by][given] = true;
     same_number(line, "number", given, expected);
 }
 
@@ -49,8 +51,6 @@ static void same_record(int line, const Panel *given, const Panel *expected)
 
 /* ---- A call and what it is to give ---- */
 
-typedef enum { SEND, RECEIVE, CLOCK } Call;
-
 /* A deadline of a panel. */
 typedef struct {
     uint8_t panel;
@@ -78,7 +78,7 @@ typedef struct {
     int buffer_more;                        /* bytes of the frame buffer beyond the least */
     PanelNumber number;                     /* what it is to answer */
     const char *log[PANEL_WAITING_MAX + 1]; /* log records without zeros after the payload's end */
-    const char *frame;                      /* the frame that a send is to write */
+    const char *frame;                      /* the frame that it is to write */
     Record record;                          /* the record that it is to give, unless refused */
 } Step;
 
@@ -117,7 +117,7 @@ enum { MARGIN = 64, MORE_MAX = 100, BYTES_MAX = 400 };
 /* What is lent to a call starts behind a margin. Each byte has a content that shows its place. */
 static uint8_t output[MARGIN + PANEL_OUTPUT_MIN + MORE_MAX + MARGIN];
 static uint8_t buffer[MARGIN + PANEL_FRAME_MAX + MORE_MAX + MARGIN];
-static struct {
+static struct Lent {
     uint8_t before[MARGIN];
     Panel panel;
     uint8_t behind[MARGIN];
@@ -134,6 +134,9 @@ static PanelAnswer make(const Step *s, const uint8_t *bytes, size_t length)
     if (s->call == SEND)
         return panel_send(&lent.panel, bytes, length, (uint16_t)s->value, output + MARGIN,
                           output_length, buffer + MARGIN, buffer_length);
+    if (s->call == BEACON)
+        return panel_beacon(&lent.panel, bytes, length, output + MARGIN, output_length,
+                            buffer + MARGIN, buffer_length);
     if (s->call == RECEIVE)
         return panel_receive(&lent.panel, bytes, length, output + MARGIN, output_length);
     return panel_clock(&lent.panel, s->value, output + MARGIN, output_length);
@@ -206,7 +209,7 @@ static void call(const Step *s, const Panel *given)
 
     lend(given);
     PanelAnswer answer = make(s, bytes, length);
-    same_answer(s->line, answer.number, s->number);
+    same_answer(s->line, s->call, answer.number, s->number);
     same_number(s->line, "count of log records", answer.count, check_output(s));
     same_number(s->line, "length of the frame", answer.length, check_buffer(s));
     same_bytes(s->line, "bytes that the call was given", bytes, expected, length, 0);
@@ -245,7 +248,7 @@ static void start(const char *name)
 {
     part = name;
     for (size_t own = 0; own < PANEL_PANELS; own++) {
-        same_answer(__LINE__, panel_fresh(&panels[own], (uint8_t)own), PANEL_ACCEPTED);
+        same_answer(__LINE__, FRESH, panel_fresh(&panels[own], (uint8_t)own), PANEL_ACCEPTED);
         paint_unused(&panels[own]);
     }
 }
@@ -277,13 +280,13 @@ static void run(const char *name, const Step *steps, size_t count)
 static const Step cases_1_and_2[] = {
     {__LINE__, CLOCK, .at = 3, .value = 100, .record = {.time = 100}},
     {__LINE__, SEND, .at = 3, .bytes = "4f4b", .value = 0,
-     .frame = "445259 0001 03 00000514 0000000000000000 02 4f4b",
-     .log = {"03 00000514 02 4f4b"},
-     .record = {.time = 100, .high = 1300, .marks = {{3, 1300}}, .barrier = {{3, 1300}}}},
+     .frame = "445259 0001 03 00001c84 0000000000000000 02 4f4b",
+     .log = {"03 00001c84 02 4f4b"},
+     .record = {.time = 100, .high = 7300, .marks = {{3, 7300}}, .barrier = {{3, 7300}}}},
     {__LINE__, SEND, .at = 3, .bytes = "", .value = 0,
-     .frame = "445259 0001 03 00000515 0000000000000008 00000514 00",
-     .log = {"03 00000515 00"},
-     .record = {.time = 100, .high = 1301, .marks = {{3, 1301}}, .barrier = {{3, 1301}}}},
+     .frame = "445259 0001 03 00001c85 0000000000000008 00001c84 00",
+     .log = {"03 00001c85 00"},
+     .record = {.time = 100, .high = 7301, .marks = {{3, 7301}}, .barrier = {{3, 7301}}}},
 };
 
 static const Step case_4[] = {
@@ -363,10 +366,10 @@ static const Step case_8[] = {
 };
 
 static const Step case_10[] = {
-    {__LINE__, SEND, .at = 1, .bytes = THIRTY_TWO, .value = 0,
-     .frame = "445259 0001 01 000004b0 0000000000000000 20" THIRTY_TWO,
-     .log = {"01 000004b0 20" THIRTY_TWO},
-     .record = {.high = 1200, .marks = {{1, 1200}}, .barrier = {{1, 1200}}}},
+    {__LINE__, SEND, .at = 1, .bytes = THIRTY_TWO, .value = 5,
+     .frame = "445259 0001 01 00000005 0000000000000000 20" THIRTY_TWO,
+     .log = {"01 00000005 20" THIRTY_TWO},
+     .record = {.high = 5, .marks = {{1, 5}}, .barrier = {{1, 5}}}},
     {__LINE__, SEND, .at = 1, .bytes = THIRTY_TWO "69", .number = PANEL_REFUSED_PAYLOAD_LONG},
     {__LINE__, RECEIVE, .at = 1, .bytes = "", .number = PANEL_REFUSED_FRAME_SHORT},
 };
@@ -481,7 +484,7 @@ static const Step settling[] = {
      .record = {.high = 100, .marks = {{1, 100}}, .barrier = {{1, 100}}}},
     {__LINE__, RECEIVE, .at = 2, .bytes = BEFORE_OWN,
      .record = {.high = 100, .marks = {{1, 100}}, .barrier = {{1, 100}}, .waiting = {BEFORE_OWN}}},
-    {__LINE__, SEND, .at = 2, .bytes = "6f", .value = PANEL_LIFETIME_DEFAULT,
+    {__LINE__, SEND, .at = 2, .bytes = "6f", .value = 1200,
      .frame = "445259 0001 02 000004b0 0000000000000002 00000064 01 6f",
      .log = {"02 000004b0 01 6f", "01 000007d0 01 61"},
      .record = {.high = 2000, .marks = {{1, 2000}, {2, 1200}}, .barrier = {{1, 2000}, {2, 1200}}}},
@@ -516,6 +519,111 @@ static const Step after_a_send[] = {
                 .barrier = {{2, 1000}, {5, 200}, {9, 500}}}},
 };
 
+/* ---- Beacons ---- */
+
+static const Step beacons[] = {
+    {__LINE__, CLOCK, .at = 3, .value = 100, .record = {.time = 100}},
+    {__LINE__, BEACON, .at = 3, .bytes = "4f4b",
+     .frame = "445259 0001 03 00000514 0000000000000000 02 4f4b",
+     .log = {"03 00000514 02 4f4b"},
+     .record = {.time = 100, .high = 1300, .marks = {{3, 1300}}, .barrier = {{3, 1300}}}},
+    /* one that another message waits for */
+    {__LINE__, RECEIVE, .at = 2, .bytes = BEFORE_OWN, .record = {.waiting = {BEFORE_OWN}}},
+    {__LINE__, BEACON, .at = 2, .bytes = "6f",
+     .frame = "445259 0001 02 000004b0 0000000000000000 01 6f",
+     .log = {"02 000004b0 01 6f", "01 000007d0 01 61"},
+     .record = {.high = 2000, .marks = {{1, 2000}, {2, 1200}}, .barrier = {{1, 2000}, {2, 1200}}}},
+    /* the last deadline; one more by high, and by the time */
+    {__LINE__, CLOCK, .at = 5, .value = 4294966095, .record = {.time = 4294966095}},
+    {__LINE__, BEACON, .at = 5, .bytes = "",
+     .frame = "445259 0001 05 ffffffff 0000000000000000 00",
+     .log = {"05 ffffffff 00"},
+     .record = {.time = 4294966095, .high = 4294967295, .marks = {{5, 4294967295}},
+                .barrier = {{5, 4294967295}}}},
+    {__LINE__, BEACON, .at = 5, .bytes = "", .number = PANEL_REFUSED_DEADLINE_TOO_HIGH},
+    {__LINE__, CLOCK, .at = 6, .value = 4294966096, .record = {.time = 4294966096}},
+    {__LINE__, BEACON, .at = 6, .bytes = "", .number = PANEL_REFUSED_DEADLINE_TOO_HIGH},
+};
+
+/* Case 1, and then a beacon: its deadline is above that of the note, and it carries the entry. */
+static void beacon_after_a_note(void)
+{
+    static const Step beacon = {
+        __LINE__, BEACON, .at = 3, .bytes = "",
+        .frame = "445259 0001 03 00001c85 0000000000000008 00001c84 00",
+        .log = {"03 00001c85 00"},
+        .record = {.time = 100, .high = 7301, .marks = {{3, 7301}}, .barrier = {{3, 7301}}}};
+
+    run("a beacon after case 1", cases_1_and_2, 2);
+    step(&beacon);
+}
+
+/* Two calls on equal records give the same: answer, and every byte of what they were lent. */
+static void same_given(const Step *one, const Step *other, const Panel *panel)
+{
+    static uint8_t one_output[sizeof output], one_buffer[sizeof buffer];
+    static struct Lent one_lent;
+    uint8_t bytes[BYTES_MAX];
+    size_t length = put_bytes(bytes, one->bytes);
+
+    lend(panel);
+    PanelAnswer expected = make(one, bytes, length);
+    memcpy(one_output, output, sizeof output);
+    memcpy(one_buffer, buffer, sizeof buffer);
+    memcpy(&one_lent, &lent, sizeof lent);
+    lend(panel);
+    PanelAnswer given = make(other, bytes, length);
+    same_number(one->line, "number", given.number, expected.number);
+    same_number(one->line, "count of log records", given.count, expected.count);
+    same_number(one->line, "length of the frame", given.length, expected.length);
+    same_bytes(one->line, "output", output, one_output, sizeof output, MARGIN);
+    same_bytes(one->line, "frame buffer", buffer, one_buffer, sizeof buffer, MARGIN);
+    same_bytes(one->line, "record", &lent, &one_lent, sizeof lent, MARGIN);
+}
+
+/* With payloads and buffers that are accepted, and with those that are not. */
+static void same_as_send(int line, const Panel *panel)
+{
+    static const char *const payloads[] = {"", "4f4b", THIRTY_TWO, THIRTY_TWO "69"};
+    Step send = {.line = line, .call = SEND, .value = PANEL_LIFETIME_BEACON};
+    Step beacon = {.line = line, .call = BEACON};
+
+    for (size_t i = 0; i < sizeof payloads / sizeof payloads[0]; i++) {
+        send.bytes = beacon.bytes = payloads[i];
+        for (int less = 0; less < 4; less++) {
+            send.output_more = beacon.output_more = -(less % 2);
+            send.buffer_more = beacon.buffer_more = -(less / 2);
+            same_given(&send, &beacon, panel);
+        }
+    }
+}
+
+/* On a record a beacon gives in everything what a send with its lifetime gives. */
+static void beacon_as_a_send(void)
+{
+    static const Step zero = {__LINE__, SEND, .bytes = "4f4b", .value = 0};
+    static const Step default_lifetime = {__LINE__, SEND, .bytes = "4f4b",
+                                          .value = PANEL_LIFETIME_DEFAULT};
+
+    run("a beacon as a send", cases_1_and_2, 2);
+    same_as_send(__LINE__, &panels[5]); /* fresh */
+    same_as_send(__LINE__, &panels[3]); /* after case 1 */
+    fill();
+    Panel p = panels[7];
+    same_as_send(__LINE__, &p); /* 32 wait for a message of panel 1 */
+    p.own = 1;
+    same_as_send(__LINE__, &p); /* which the beacon is */
+    p.time = 4294967295 - PANEL_LIFETIME_BEACON;
+    same_as_send(__LINE__, &p); /* the last time for a beacon */
+    p.time++;
+    same_as_send(__LINE__, &p);
+    p.count = 33;
+    same_as_send(__LINE__, &p); /* broken */
+
+    part = "a lifetime of 0";
+    same_given(&zero, &default_lifetime, &panels[5]);
+}
+
 /* ---- Refusals ---- */
 
 /* The orders: in each row what the rows behind it are refused for applies too, as far as it can. */
@@ -538,6 +646,18 @@ static const Step send_order[] = {
      .number = PANEL_REFUSED_BUFFER_SHORT},
 };
 
+/* That of a beacon is that of a send. */
+static void beacon_order(void)
+{
+    start("order of beacon");
+    for (size_t i = 0; i < sizeof send_order / sizeof send_order[0]; i++) {
+        Step s = send_order[i];
+        if (s.call == SEND)
+            s.call = BEACON;
+        step(&s);
+    }
+}
+
 static const Step clock_order[] = {
     {__LINE__, CLOCK, .at = 6, .value = 50, .record = {.time = 50}},
     {__LINE__, CLOCK, .at = 6, .value = 49, .broken = true, .output_more = -1,
@@ -550,7 +670,7 @@ static const Step clock_order[] = {
 /* Panel 3 has sent, so that 20, 21 and 22 apply to a frame of source 3 with deadline 9. */
 static const Step receive_order[] = {
     {__LINE__, CLOCK, .at = 3, .value = 100, .record = {.time = 100}},
-    {__LINE__, SEND, .at = 3, .bytes = "", .value = 0,
+    {__LINE__, SEND, .at = 3, .bytes = "", .value = 1200,
      .frame = "445259 0001 03 00000514 0000000000000000 00",
      .log = {"03 00000514 00"},
      .record = {.time = 100, .high = 1300, .marks = {{3, 1300}}, .barrier = {{3, 1300}}}},
@@ -622,6 +742,7 @@ static void refused_as_broken(int line, const Panel *p)
 {
     static const Step calls[] = {
         {.call = SEND, .bytes = "", .number = PANEL_REFUSED_RECORD_BROKEN},
+        {.call = BEACON, .bytes = "", .number = PANEL_REFUSED_RECORD_BROKEN},
         {.call = RECEIVE, .bytes = FROM_1_DUE_700, .number = PANEL_REFUSED_RECORD_BROKEN},
         {.call = CLOCK, .value = 0, .number = PANEL_REFUSED_RECORD_BROKEN},
     };
@@ -862,21 +983,45 @@ static void fresh_panels(void)
         memset(&expected, 0, sizeof expected);
         expected.own = known ? (uint8_t)number : 0;
         lend(&painted);
-        same_answer(__LINE__, panel_fresh(&lent.panel, (uint8_t)number),
+        same_answer(__LINE__, FRESH, panel_fresh(&lent.panel, (uint8_t)number),
                     known ? PANEL_ACCEPTED : PANEL_REFUSED_PANEL_NUMBER);
         same_bytes(__LINE__, "record", &lent.panel, &expected, sizeof expected, 0);
         check_margins(__LINE__);
     }
 }
 
-/* Every number of document 01 was answered by some call. */
+/* ---- Numbers answered ---- */
+
+static const struct {
+    const char *name;
+    PanelNumber refusals[PANEL_REFUSED_RECORD_BROKEN]; /* that it can answer, up to the first 0 */
+} calls[CALLS] = {
+    [FRESH] = {"fresh", {11}},
+    [SEND] = {"send", {9, 10, 24, 26}},
+    [BEACON] = {"beacon", {9, 10, 24, 26}},
+    [RECEIVE] = {"receive", {1, 2, 3, 4, 5, 6, 7, 8, 10, 20, 21, 22, 23, 26}},
+    [CLOCK] = {"clock", {10, 25, 26}},
+};
+
+/* Whether a call can answer a number: one of its refusals, or the 0 behind them. */
+static bool can_answer(Call by, unsigned number)
+{
+    const PanelNumber *refusal = calls[by].refusals;
+    while (*refusal != PANEL_ACCEPTED && *refusal != number)
+        refusal++;
+    return *refusal == number;
+}
+
+/* Each call answered each number that it can answer, and no other. */
 static void all_seen(void)
 {
     part = "numbers answered";
-    for (int number = PANEL_ACCEPTED; number <= PANEL_REFUSED_RECORD_BROKEN; number++) {
-        bool known = number <= PANEL_REFUSED_PANEL_NUMBER || number >= PANEL_REFUSED_OWN_SOURCE;
-        if (fails(seen[number] == known, __FILE__, __LINE__, "number"))
-            printf(" %d: %s\n", number, known ? "never" : "no number of document 01");
+    for (Call by = FRESH; by < CALLS; by++) {
+        for (unsigned number = 0; number <= PANEL_REFUSED_RECORD_BROKEN; number++) {
+            bool can = can_answer(by, number);
+            if (fails(seen[by][number] == can, __FILE__, __LINE__, calls[by].name))
+                printf(" %s %u\n", can ? "never answered" : "answered", number);
+        }
     }
 }
 
@@ -894,7 +1039,11 @@ void test_calls(void)
     RUN("case 11", case_11);
     RUN("settling", settling);
     RUN("after a send", after_a_send);
+    RUN("beacons", beacons);
+    beacon_after_a_note();
+    beacon_as_a_send();
     RUN("order of send", send_order);
+    beacon_order();
     RUN("order of clock", clock_order);
     RUN("order of receive", receive_order);
     full_order();

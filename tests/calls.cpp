@@ -35,6 +35,20 @@ static size_t send(uint8_t (&frame)[PANEL_FRAME_MAX])
     return sent.length;
 }
 
+// The beacon of a fresh panel, which lapses earlier than a note.
+static void beacon()
+{
+    static Panel five;
+    uint8_t frame[PANEL_FRAME_MAX];
+
+    CHECK(panel_fresh(&five, 5) == PANEL_ACCEPTED);
+    PanelAnswer sent = panel_beacon(&five, frame, 0, output, sizeof output, frame, sizeof frame);
+    CHECK(sent.number == PANEL_ACCEPTED && sent.count == 1 && sent.length == PANEL_FRAME_MIN);
+    PanelLogRecord record = panel_log_record(output, sent.count * PANEL_LOG_RECORD, 0);
+    CHECK(record.source == 5 && record.deadline == PANEL_LIFETIME_BEACON && record.length == 0);
+    CHECK(panel_frame_check(frame, sent.length) == PANEL_ACCEPTED);
+}
+
 static void receive(const uint8_t *frame, size_t length)
 {
     static Panel four;
@@ -43,7 +57,7 @@ static void receive(const uint8_t *frame, size_t length)
     PanelAnswer received = panel_receive(&four, frame, length, output, sizeof output);
     CHECK(received.number == PANEL_ACCEPTED && received.count == 1 && received.length == 0);
     PanelLogRecord record = panel_log_record(output, received.count * PANEL_LOG_RECORD, 0);
-    CHECK(record.source == 3 && record.deadline == 1300 && record.length == 2);
+    CHECK(record.source == 3 && record.deadline == 7300 && record.length == 2);
     CHECK(std::memcmp(record.payload, "OK", 2) == 0);
     CHECK(panel_log_record(output, received.count * PANEL_LOG_RECORD, 1).deadline == 0);
 }
@@ -60,6 +74,7 @@ int main()
     PanelBundle bundle = panel_bundle(bytes, 2 + length);
     CHECK(panel_bundle_next(&bundle, &frame, &length) == PANEL_BUNDLE_FRAME && length == 21);
     receive(frame, length);
+    beacon();
     CHECK(panel_bundle_next(&bundle, &frame, &length) == PANEL_BUNDLE_END && length == 0);
     CHECK(std::strcmp(panel_number_text(PANEL_REFUSED_LAPSED), "the message has lapsed") == 0);
     return EXIT_SUCCESS;

@@ -4,7 +4,7 @@
 
 use panel::{
     frame_check, log_record, log_records, Bundle, BundleBroken, LogRecord, Panel, Refusal,
-    LOG_RECORD,
+    LIFETIME_BEACON, LIFETIME_DEFAULT, LOG_RECORD,
 };
 
 /// The records of a call that was accepted: source, deadline and payload of each.
@@ -33,13 +33,31 @@ fn sends() -> Result<(), Refusal> {
     let mut three = Panel::fresh(3)?;
     assert!(three.clock(100)?.is_empty());
     let (sent, log) = three.send(b"OK", 0)?;
+    assert_eq!(sent[..10], [0x44, 0x52, 0x59, 0, 1, 3, 0, 0, 0x1c, 0x84]);
+    assert_eq!(sent[10..], *b"\0\0\0\0\0\0\0\0\x02OK");
+    assert_eq!(records(&log), [(3, 7300, &b"OK"[..])]);
+    let (sent, log) = three.send(b"", 0)?;
+    assert_eq!(sent[..], frame(3, 7301, 8, &[7300]));
+    assert_eq!(records(&log), [(3, 7301, &b""[..])]);
+    assert_eq!((three.own(), three.time(), three.waiting()), (3, 100, 0));
+    Ok(())
+}
+
+/// At panel 3 and time 100, and after a note with the lifetime that 0 stands for.
+fn beacons() -> Result<(), Refusal> {
+    let mut three = Panel::fresh(3)?;
+    three.clock(100)?;
+    let (sent, log) = three.beacon(b"OK")?;
     assert_eq!(sent[..10], [0x44, 0x52, 0x59, 0, 1, 3, 0, 0, 5, 0x14]);
     assert_eq!(sent[10..], *b"\0\0\0\0\0\0\0\0\x02OK");
     assert_eq!(records(&log), [(3, 1300, &b"OK"[..])]);
-    let (sent, log) = three.send(b"", 0)?;
-    assert_eq!(sent[..], frame(3, 1301, 8, &[1300]));
-    assert_eq!(records(&log), [(3, 1301, &b""[..])]);
-    assert_eq!((three.own(), three.time(), three.waiting()), (3, 100, 0));
+    let mut four = Panel::fresh(4)?;
+    four.send(b"", 0)?;
+    let note = u32::from(LIFETIME_DEFAULT);
+    assert_eq!(four.beacon(b"")?.0[..], frame(4, note + 1, 16, &[note]));
+    let mut five = Panel::fresh(5)?;
+    let lapses = u32::from(LIFETIME_BEACON);
+    assert_eq!(records(&five.beacon(b"")?.1), [(5, lapses, &b""[..])]);
     Ok(())
 }
 
@@ -56,7 +74,7 @@ fn receives() -> Result<(), Refusal> {
     assert_eq!(two.waiting(), 1);
     assert_eq!(records(&two.clock(51)?), [(9, 500, &b""[..])]);
     assert_eq!((two.time(), two.waiting()), (51, 0));
-    let (sent, _) = two.send(b"", 0)?;
+    let (sent, _) = two.send(b"", 1200)?;
     assert_eq!(
         sent[..],
         frame(2, 1251, 1 << 2 | 1 << 5 | 1 << 9, &[1000, 200, 500])
@@ -68,12 +86,14 @@ fn refusals() -> Result<(), Refusal> {
     let mut three = Panel::fresh(3)?;
     assert_eq!(Panel::fresh(64).err(), Some(Refusal::PanelNumber));
     assert_eq!(three.send(&[0; 33], 0).err(), Some(Refusal::PayloadLong));
+    assert_eq!(three.beacon(&[0; 33]).err(), Some(Refusal::PayloadLong));
     assert_eq!(three.receive(&[]).err(), Some(Refusal::FrameShort));
     let own = frame(3, 9, 0, &[]);
     assert_eq!(three.receive(&own).err(), Some(Refusal::OwnSource));
     three.clock(u32::MAX)?;
     assert_eq!(three.clock(0).err(), Some(Refusal::ClockBack));
     assert_eq!(three.send(b"", 0).err(), Some(Refusal::DeadlineTooHigh));
+    assert_eq!(three.beacon(b"").err(), Some(Refusal::DeadlineTooHigh));
     let late = frame(4, 9, 0, &[]);
     assert_eq!(three.receive(&late).err(), Some(Refusal::Lapsed));
     assert_eq!(frame_check(&late), Ok(()));
@@ -134,6 +154,7 @@ fn bundles() {
 
 fn main() -> Result<(), Refusal> {
     sends()?;
+    beacons()?;
     receives()?;
     refusals()?;
     full_list()?;

@@ -74,9 +74,9 @@ static void log_of_a_call(void)
     same_number(__LINE__, "count of log records", write_log(output), 3);
     for (size_t length = 3 * PANEL_LOG_RECORD; length <= sizeof output;
          length += sizeof output - 3 * PANEL_LOG_RECORD) {
-        check_log(__LINE__, output, length, 0, 1, 1200, THIRTY_TWO);
-        check_log(__LINE__, output, length, 1, 1, 1201, "");
-        check_log(__LINE__, output, length, 2, 1, 1202, "6f6b");
+        check_log(__LINE__, output, length, 0, 1, PANEL_LIFETIME_DEFAULT, THIRTY_TWO);
+        check_log(__LINE__, output, length, 1, 1, PANEL_LIFETIME_DEFAULT + 1, "");
+        check_log(__LINE__, output, length, 2, 1, PANEL_LIFETIME_DEFAULT + 2, "6f6b");
     }
     check_no_record(__LINE__, output, 3 * PANEL_LOG_RECORD, 3);
     check_no_record(__LINE__, output, sizeof output, 33);

@@ -55,14 +55,15 @@ test_list() {
     say "list printed what it must on $runs bundles"
 }
 
-# The program in the comment at the head of the header.
+# The program in the comment at the head of the header prints what is said there.
 example() {
     sed -n '/^ \*     #include <panel.h>/,/^ \* What a caller/{
         s/^ \*     //p
         s/^ \*$//p
     }' "$to/include/panel.h" >$built/example.c
     $1 -O2 -std=c11 $warnings $flags -o $built/example $built/example.c $libs
-    printf '3 1200 OK\n21 bytes to pass on\n' >$built/expected
+    sed -n 's/^ \* Example.* It prints "\(.*\)" and "\(.*\)"\..*/\1\n\2/p' \
+        "$to/include/panel.h" >$built/expected
     $built/example >$built/given
     cmp -s $built/expected $built/given || fail "the header's example prints another text"
 }

@@ -15,6 +15,9 @@ static ucontext_t caller, callee;
 static Panel panel;
 static PanelAnswer answer;
 
+/* The deadline of the own message, sent at time 0: that of a beacon. */
+enum { OWN_DEADLINE = PANEL_LIFETIME_BEACON };
+
 /* Panel 7 takes 32 messages of panel 2, deadlines from 2000 on, which wait for a message of a
    panel from 0 to 7, with its deadline. */
 static void fill(unsigned source, uint32_t deadline)
@@ -32,10 +35,15 @@ static void fill(unsigned source, uint32_t deadline)
     }
 }
 
-/* The own message has deadline 1200. */
 static void make_send(void)
 {
-    answer = panel_send(&panel, buffer, 0, 0, output, sizeof output, buffer, sizeof buffer);
+    answer = panel_send(&panel, buffer, 0, OWN_DEADLINE, output, sizeof output, buffer,
+                        sizeof buffer);
+}
+
+static void make_beacon(void)
+{
+    answer = panel_beacon(&panel, buffer, 0, output, sizeof output, buffer, sizeof buffer);
 }
 
 static void make_receive(void)
@@ -86,8 +94,10 @@ static void check_stack(int line, void (*make)(void), size_t count)
 int main(void)
 {
     part = "stack";
-    fill(7, 1200);
+    fill(7, OWN_DEADLINE);
     check_stack(__LINE__, make_send, PANEL_WAITING_MAX + 1);
+    fill(7, OWN_DEADLINE);
+    check_stack(__LINE__, make_beacon, PANEL_WAITING_MAX + 1);
     fill(1, 100);
     check_stack(__LINE__, make_receive, PANEL_WAITING_MAX + 1);
     fill(1, 100);

@@ -7,7 +7,7 @@
 #include "reference_frames.h"
 #include "reference_record.h"
 
-enum { DEFAULT_LIFETIME = 1200 };
+enum { DEFAULT_LIFETIME = 7200, BEACON_LIFETIME = 1200 };
 
 uint8_t c_frame_check(const uint8_t *frame, size_t length)
 {
@@ -76,6 +76,12 @@ uint8_t c_send(Record *record, Slice payload, uint16_t lifetime, Buffer output,
     hand(record, &message, output.bytes);
     written->count = settle(record, output.bytes, 1);
     return 0;
+}
+
+uint8_t c_beacon(Record *record, Slice payload, Buffer output, Buffer buffer,
+                 Written *written)
+{
+    return c_send(record, payload, BEACON_LIFETIME, output, buffer, written);
 }
 
 uint8_t c_receive(Record *record, Slice frame, Buffer output, Written *written)

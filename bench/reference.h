@@ -59,6 +59,8 @@ typedef struct {
 uint8_t c_fresh(Record *record, uint8_t own);
 uint8_t c_send(Record *record, Slice payload, uint16_t lifetime, Buffer output,
                Buffer buffer, Written *written);
+uint8_t c_beacon(Record *record, Slice payload, Buffer output, Buffer buffer,
+                 Written *written);
 uint8_t c_receive(Record *record, Slice frame, Buffer output, Written *written);
 uint8_t c_clock(Record *record, uint32_t time, Buffer output, Written *written);
 

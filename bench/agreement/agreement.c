@@ -53,6 +53,7 @@ static uint16_t random_lifetime(const Panel *panel)
     return (uint16_t)random_64();
 }
 
+/* A send, or now and then a beacon. */
 static void random_send(Panel *panel, Record *record)
 {
     Bytes frame;
@@ -64,7 +65,10 @@ static void random_send(Panel *panel, Record *record)
         length = chance(500) ? 33 : 33 + random_below(300);
     else if (chance(100))
         length = 32;
-    both_send(panel, record, (Slice){payload, length}, random_lifetime(panel), &frame);
+    if (chance(200))
+        both_beacon(panel, record, (Slice){payload, length}, &frame);
+    else
+        both_send(panel, record, (Slice){payload, length}, random_lifetime(panel), &frame);
     if (frame.length > 0)
         remember_frame(&frame);
 }

@@ -114,6 +114,13 @@ void both_fresh(uint8_t own, Panel *panel, Record *record)
     same_bytes("slots of a fresh panel", panel->slots, zeros.slots, sizeof zeros.slots, 0);
 }
 
+/* The frame that a call wrote. */
+static void take_frame(Bytes *frame, size_t length)
+{
+    frame->length = length;
+    memcpy(frame->bytes, buffer.c + MARGIN, length);
+}
+
 void both_send(Panel *panel, Record *record, Slice payload, uint16_t lifetime, Bytes *frame)
 {
     Written written;
@@ -126,8 +133,22 @@ void both_send(Panel *panel, Record *record, Slice payload, uint16_t lifetime, B
     uint8_t number = c_send(record, payload, lifetime, lent_to_c(&output),
                             lent_to_c(&buffer), &written);
     end_on_record(answer, number, written, panel, record);
-    frame->length = written.length;
-    memcpy(frame->bytes, buffer.c + MARGIN, frame->length);
+    take_frame(frame, written.length);
+}
+
+void both_beacon(Panel *panel, Record *record, Slice payload, Bytes *frame)
+{
+    Written written;
+
+    start_call(BEACON, "beacon", 0, payload);
+    start_on_record(panel, record);
+    PanelAnswer answer = panel_beacon(panel, payload.bytes, payload.length,
+                                      output.proved + MARGIN, output.length,
+                                      buffer.proved + MARGIN, buffer.length);
+    uint8_t number = c_beacon(record, payload, lent_to_c(&output), lent_to_c(&buffer),
+                              &written);
+    end_on_record(answer, number, written, panel, record);
+    take_frame(frame, written.length);
 }
 
 void both_receive(Panel *panel, Record *record, Slice frame)

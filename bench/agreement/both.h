@@ -13,6 +13,7 @@ void both_fresh(uint8_t own, Panel *panel, Record *record);
 
 /* Puts the frame into *frame, with length 0 if refused. */
 void both_send(Panel *panel, Record *record, Slice payload, uint16_t lifetime, Bytes *frame);
+void both_beacon(Panel *panel, Record *record, Slice payload, Bytes *frame);
 void both_receive(Panel *panel, Record *record, Slice frame);
 void both_clock(Panel *panel, Record *record, uint32_t time);
 void both_check(Slice frame);

@@ -10,7 +10,7 @@
 #include <string.h>
 
 const char *const kind_name[KINDS] = {
-    "fresh", "send", "receive", "clock", "check", "log", "bundle"
+    "fresh", "send", "beacon", "receive", "clock", "check", "log", "bundle"
 };
 
 Call call;
@@ -24,7 +24,7 @@ void differ(const char *format, ...)
     vprintf(format, arguments);
     va_end(arguments);
     printf("\n");
-    if (call.kind == SEND || call.kind == RECEIVE || call.kind == CLOCK)
+    if (call.kind >= SEND && call.kind <= CLOCK)
         printf("  given a record with own %u, time %u, high %u, %zu waiting\n",
                call.panel.own, call.panel.time, call.panel.high, call.panel.count);
     printf("  %s %llu, output of %zu bytes, %zu bytes given:", call.what,

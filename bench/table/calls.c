@@ -72,6 +72,12 @@ void to_send(uint8_t length, uint16_t lifetime)
     memset(now.bytes, 0x4F, length);
 }
 
+void to_beacon(uint8_t length)
+{
+    to_send(length, 0);
+    now.kind = BEACON;
+}
+
 void to_clock(uint32_t time)
 {
     now.kind = CLOCK;

@@ -15,6 +15,7 @@ typedef enum {
     LOG,    /* reads a log */
     BUNDLE, /* goes through a bundle */
     SEND,
+    BEACON,
     RECEIVE,
     RECEIVE_AND_READ, /* receives a frame and reads its log records */
     RECEIVE_BUNDLE,   /* does so with each frame of a bundle */
@@ -31,7 +32,7 @@ typedef struct {
     Panel panel;
     Record record; /* the same, made of the panel when the case is started */
     uint8_t own;   /* of a fresh panel */
-    uint8_t bytes[BYTES_MAX]; /* a frame, the payload of a send, a bundle, or a log */
+    uint8_t bytes[BYTES_MAX]; /* a frame, a payload, a bundle, or a log */
     size_t length;            /* of the bytes */
     uint16_t lifetime;
     uint32_t time;
@@ -92,6 +93,7 @@ void long_frames(size_t count);
 void to_check(const Message *message);
 void to_fresh(uint8_t own);
 void to_send(uint8_t length, uint16_t lifetime);
+void to_beacon(uint8_t length);
 void to_receive(const Message *message);
 
 

@@ -59,6 +59,9 @@ INLINED void make_call(Kind kind)
     else if (kind == SEND)
         number = c_send(&record, bytes, now.lifetime, log_buffer,
                         (Buffer){frame_buffer, now.frame_length}, &written);
+    else if (kind == BEACON)
+        number = c_beacon(&record, bytes, log_buffer,
+                          (Buffer){frame_buffer, now.frame_length}, &written);
     else if (kind == CLOCK)
         number = c_clock(&record, now.time, log_buffer, &written);
     else if (kind == RECEIVE || kind == RECEIVE_AND_READ)

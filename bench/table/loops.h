@@ -96,6 +96,7 @@ extern const Loops proved_loops, c_loops;
     LOOP(log_loop, make_call, worked, LOG)                                        \
     LOOP(bundle_loop, make_call, worked, BUNDLE)                                  \
     LOOP(send_loop, make_call, worked, SEND)                                      \
+    LOOP(beacon_loop, make_call, worked, BEACON)                                  \
     LOOP(receive_loop, make_call, worked, RECEIVE)                                \
     LOOP(read_loop, make_call, worked, RECEIVE_AND_READ)                          \
     LOOP(received_bundle_loop, make_call, worked, RECEIVE_BUNDLE)                 \
@@ -110,8 +111,8 @@ extern const Loops proved_loops, c_loops;
     }                                                                             \
                                                                                   \
     const Loops name = {                                                          \
-        {check_loop, fresh_loop, log_loop, bundle_loop, send_loop, receive_loop,  \
-         read_loop, received_bundle_loop, clock_loop},                            \
+        {check_loop, fresh_loop, log_loop, bundle_loop, send_loop, beacon_loop,   \
+         receive_loop, read_loop, received_bundle_loop, clock_loop},              \
         put_back_loop,                                                            \
         worked                                                                    \
     };

@@ -58,6 +58,9 @@ INLINED void make_call(Kind kind)
     else if (kind == SEND)
         given = panel_send(&panel, now.bytes, now.length, now.lifetime, output,
                            now.output_length, frame_buffer, now.frame_length);
+    else if (kind == BEACON)
+        given = panel_beacon(&panel, now.bytes, now.length, output, now.output_length,
+                             frame_buffer, now.frame_length);
     else if (kind == CLOCK)
         given = panel_clock(&panel, now.time, output, now.output_length);
     else if (kind == RECEIVE || kind == RECEIVE_AND_READ)

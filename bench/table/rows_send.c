@@ -1,24 +1,38 @@
-/* Rows of a send. */
+/* Rows of a send and of a beacon. */
 #include "rows.h"
 
 #include <stdio.h>
 
-static void send_entries_row(int entries)
+/* The empty record, with so many barrier entries. */
+static void entries(int count)
+{
+    empty();
+    for (int source = 0; source < PANELS; source++)
+        now.panel.barrier[source] = source < count ? 600 : 0;
+}
+
+static void send_entries_row(int count)
 {
     char label[80];
 
-    empty();
-    for (int source = 0; source < PANELS; source++)
-        now.panel.barrier[source] = source < entries ? 600 : 0;
+    entries(count);
     to_send(32, 0);
-    snprintf(label, sizeof label, "send, %d entries, 0 waiting", entries);
+    snprintf(label, sizeof label, "send, %d entries, 0 waiting", count);
     row(label, 0, 1);
+}
+
+static void beacon_row(void)
+{
+    entries(3);
+    to_beacon(32);
+    row("beacon, 3 entries, 0 waiting", 0, 1);
 }
 
 static void accepted_rows(void)
 {
     send_entries_row(0);
     send_entries_row(3);
+    beacon_row();
     send_entries_row(16);
     send_entries_row(63);
     chain(4);

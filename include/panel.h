@@ -194,11 +194,11 @@ typedef struct PanelAnswer {
 
 /*
  * Sends a payload of 0 to 32 bytes. The deadline of the message is the larger of time + lifetime
- * (0 means 7,200) and high + 1. Its frame stands at the start of the frame buffer, `length` bytes,
- * and carries the barrier entries as they were. Then the barrier is emptied, the own message is
- * handed, and the panel settles: `count` log records, 1 to 33, stand one after another from the
- * start of the output, the own message first. Bytes behind the frame and behind the log records
- * keep their content.
+ * (0 means PANEL_LIFETIME_DEFAULT) and high + 1. Its frame stands at the start of the frame buffer,
+ * `length` bytes, and carries the barrier entries as they were. Then the barrier is emptied, the own
+ * message is handed, and the panel settles: `count` log records, 1 to 33, stand one after another
+ * from the start of the output, the own message first. Bytes behind the frame and behind the log
+ * records keep their content.
  * Refused with the first of 26, 10, 9, 24 that applies.
  */
 PANEL_ANSWER PANEL_NOT_NULL
@@ -210,7 +210,7 @@ static inline PanelAnswer panel_send(Panel *panel, const uint8_t *payload, size_
  * Sends a status beacon, such as "fan 2 runs": in everything as panel_send with lifetime
  * PANEL_LIFETIME_BEACON, whatever a lifetime of 0 means. Its deadline, as that of every send, is
  * above the largest in the log: after a note with a longer lifetime, sent or received, the beacon
- * lapses just after that note, not 1,200 seconds from now.
+ * lapses just after that note, not PANEL_LIFETIME_BEACON seconds from now.
  * Refused with the first of 26, 10, 9, 24 that applies.
  */
 PANEL_ANSWER PANEL_NOT_NULL

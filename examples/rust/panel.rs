@@ -460,8 +460,8 @@ impl Panel {
         Ok(panel)
     }
 
-    /// Sends a payload of at most 32 bytes; a lifetime of 0 means 7,200 seconds. The first of the
-    /// log records is that of the message sent.
+    /// Sends a payload of at most 32 bytes; a lifetime of 0 means `LIFETIME_DEFAULT`. The first of
+    /// the log records is that of the message sent.
     pub fn send(&mut self, payload: &[u8], lifetime: u16) -> Result<(Frame, Log), Refusal> {
         let mut frame = Frame::new();
         let mut log = Log::new();
@@ -494,7 +494,7 @@ impl Panel {
     /// Sends a status beacon, such as "fan 2 runs": in everything as `send` with lifetime
     /// `LIFETIME_BEACON`, whatever a lifetime of 0 means. Its deadline, as that of every send, is
     /// above the largest in the log: after a note with a longer lifetime, sent or received, the
-    /// beacon lapses just after that note, not 1,200 seconds from now.
+    /// beacon lapses just after that note, not `LIFETIME_BEACON` seconds from now.
     pub fn beacon(&mut self, payload: &[u8]) -> Result<(Frame, Log), Refusal> {
         let mut frame = Frame::new();
         let mut log = Log::new();

@@ -1,4 +1,4 @@
-//! Document 01's bench cases, with the values that it gives, on both implementations.
+//! Document 01's bench cases, with the values of documents 01 and 02, on both implementations.
 
 use crate::bundles::printed;
 use crate::calls::Call;
@@ -79,22 +79,22 @@ fn is(name: &str, holds: bool) -> Result<(), Found> {
     }
 }
 
-/// The frames of cases 1 and 2, as document 01 gives their bytes.
+/// The bytes of the frames of cases 1 and 2.
 fn first_frames() -> [Vec<u8>; 2] {
-    let one = b"\x44\x52\x59\x00\x01\x03\x00\x00\x05\x14\0\0\0\0\0\0\0\0\x02\x4f\x4b";
-    let two = b"\x44\x52\x59\x00\x01\x03\x00\x00\x05\x15\0\0\0\0\0\0\0\x08\x00\x00\x05\x14\x00";
+    let one = b"\x44\x52\x59\x00\x01\x03\x00\x00\x1c\x84\0\0\0\0\0\0\0\0\x02\x4f\x4b";
+    let two = b"\x44\x52\x59\x00\x01\x03\x00\x00\x1c\x85\0\0\0\0\0\0\0\x08\x00\x00\x1c\x84\x00";
     [one.to_vec(), two.to_vec()]
 }
 
 fn cases_1_to_3(both: &mut Both) -> Result<(), Found> {
     let mut three = both.fresh(3)?;
     hands(both, &mut three, Call::clock(100), &[])?;
-    let one = hands(both, &mut three, Call::send(b"OK", 0), &[(3, 1300, b"OK")])?;
-    let two = hands(both, &mut three, Call::send(b"", 0), &[(3, 1301, b"")])?;
+    let one = hands(both, &mut three, Call::send(b"OK", 0), &[(3, 7300, b"OK")])?;
+    let two = hands(both, &mut three, Call::send(b"", 0), &[(3, 7301, b"")])?;
     let lengths = (one.len(), two.len()) == (21, 23);
     let mut zero = both.fresh(0)?;
     hands(both, &mut zero, Call::receive(&two), &[])?;
-    let log: Log = &[(3, 1300, b"OK"), (3, 1301, b"")];
+    let log: Log = &[(3, 7300, b"OK"), (3, 7301, b"")];
     hands(both, &mut zero, Call::receive(&one), log)?;
     is(
         "the frames of cases 1 and 2",
@@ -105,7 +105,7 @@ fn cases_1_to_3(both: &mut Both) -> Result<(), Found> {
 fn texts_of_3_and_12(program: &Path) -> Result<(), Found> {
     let [one, two] = first_frames();
     let bundle = [&[0, 23], &two[..], &[0, 21], &one[..]].concat();
-    let three = "frame 1 taken\nframe 2 taken\nhand 3 1300 4f4b\nhand 3 1301 -\nend\n";
+    let three = "frame 1 taken\nframe 2 taken\nhand 3 7300 4f4b\nhand 3 7301 -\nend\n";
     for (input, text) in [(&bundle[..], three), (b"", "end\n"), (b"\0", "broken\n")] {
         is(
             "the text of list in cases 3 and 12",

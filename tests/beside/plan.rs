@@ -1,6 +1,7 @@
 //! What kind of list is made: how many panels and calls, how the clocks go, who passes what on.
 
 use crate::random::Random;
+use crate::second::DEFAULT_LIFETIME;
 
 /// How far the clocks of the panels are apart.
 #[derive(Clone, Copy)]
@@ -22,7 +23,10 @@ impl Clocks {
             Clocks::Near => 100 + random.below(4) as u32,
             Clocks::Apart => random.below(500) as u32,
             Clocks::Wide => random.any_size(),
-            Clocks::Last => u32::MAX - random.below(4000) as u32,
+            Clocks::Last => {
+                let before = random.pick(&[40, 4_000, 24_000]);
+                u32::MAX - random.below(before) as u32
+            }
         }
     }
 
@@ -30,9 +34,9 @@ impl Clocks {
     pub fn near(self) -> u32 {
         match self {
             Clocks::Near => 20,
-            Clocks::Apart => 1500,
+            Clocks::Apart => 7_500,
             Clocks::Wide => u32::MAX,
-            Clocks::Last => 4000,
+            Clocks::Last => 24_000,
         }
     }
 }
@@ -54,6 +58,7 @@ impl Lifetimes {
                 0 => 0,
                 1 => 1,
                 2 => random.next() as u16,
+                3 => DEFAULT_LIFETIME,
                 _ => random.below(300) as u16,
             },
         }

@@ -11,6 +11,8 @@ use crate::side::{Found, Side};
 
 /// The ways in which a record is broken.
 const WAYS: u64 = 14;
+/// Lifetimes of interest.
+const LIFETIMES: [u16; 11] = [0, 1, 2, 3, 1199, 1200, 1201, 7199, 7200, 7201, u16::MAX];
 
 /// So many records that 26 lets through, with some calls on each, and as many broken ones.
 pub fn run(both: &mut Both, seed: u64, records: u64) -> Result<(), Found> {
@@ -48,13 +50,18 @@ pub fn run(both: &mut Both, seed: u64, records: u64) -> Result<(), Found> {
 fn numbers(random: &mut Random) -> Vec<u32> {
     let middle = match random.below(3) {
         0 => random.below(10) as u32,
-        1 => u32::MAX - random.below(10) as u32,
+        1 => {
+            let before = random.pick(&[0, 0, 1200, 7200]);
+            u32::MAX - before - random.below(10) as u32
+        }
         _ => random.any_size(),
     };
     let near = |change: usize| middle.saturating_add(change as u32).saturating_sub(3);
     let mut numbers: Vec<u32> = (0..4).map(|_| near(random.below(7))).collect();
     numbers.push(random.any_size());
-    numbers.push(middle.saturating_add(random.below(2000) as u32));
+    numbers.push(middle.saturating_add(random.below(9000) as u32));
+    let lifetime = random.pick(&LIFETIMES);
+    numbers.push(middle.saturating_add(u32::from(lifetime)));
     numbers
 }
 
@@ -148,7 +155,7 @@ fn any_call(kind: usize, kept: &Kept, numbers: &[u32], random: &mut Random) -> C
                 true => random.bytes(length),
                 false => compose::payload(random),
             };
-            let lifetime = random.pick(&[0, 1, 2, 3, 1199, 1200, 1201, u16::MAX]);
+            let lifetime = random.pick(&LIFETIMES);
             Call::send(&payload, lifetime)
         }
         1 => {

@@ -1,47 +1,16 @@
-//! Send, receive and clock: the source's codes 5, 9 and 11, with document 01's refusals in front.
+//! Receive and clock: the source's codes 5 and 11, with document 01's refusals in front.
 
 use super::delivery::raise;
 use super::faults::{planted, Fault};
 use super::log::Log;
-use super::{accepted, first, refused, Answer, Message, Panel, FRAME, OUTPUT, PAYLOAD, WAITING};
+use super::{accepted, first, refused, Answer, Message, Panel, OUTPUT, WAITING};
 
 /// Whether an output is too short.
-fn short(output: &[u8]) -> bool {
+pub fn short(output: &[u8]) -> bool {
     output.len() < OUTPUT - usize::from(planted(Fault::OutputOneByteShortTaken))
 }
 
 impl Panel {
-    /// Sends a payload.
-    pub fn send(
-        &mut self,
-        payload: &[u8],
-        lifetime: u16,
-        output: &mut [u8],
-        frame: &mut [u8],
-    ) -> Answer {
-        let deadline = self.next_deadline(lifetime);
-        let last = match (
-            planted(Fault::LastDeadlineRefused),
-            planted(Fault::DeadlinePastLastSent),
-        ) {
-            (true, _) => u64::from(u32::MAX) - 1,
-            (_, true) => u64::from(u32::MAX) + 1,
-            _ => u64::from(u32::MAX),
-        };
-        let longest = PAYLOAD + usize::from(planted(Fault::PayloadThirtyThreeSent));
-        let least_frame = FRAME - usize::from(planted(Fault::FrameBufferOneByteShortTaken));
-        let number = first([
-            (26, self.broken()),
-            (10, short(output) || frame.len() < least_frame),
-            (9, payload.len() > longest),
-            (24, deadline > last),
-        ]);
-        match number {
-            Some(number) => refused(number),
-            None => self.accept(|panel| panel.broadcast(payload, deadline as u32, output, frame)),
-        }
-    }
-
     /// Receives a frame.
     pub fn receive(&mut self, frame: &[u8], output: &mut [u8]) -> Answer {
         let reading = Message::read(frame);
@@ -83,80 +52,11 @@ impl Panel {
     }
 
     /// Changes the record by a call that is not refused.
-    fn accept(&mut self, call: impl FnOnce(&mut Panel) -> Answer) -> Answer {
+    pub fn accept(&mut self, call: impl FnOnce(&mut Panel) -> Answer) -> Answer {
         match planted(Fault::RecordAsItCame) {
             true => call(&mut self.clone()),
             false => call(self),
         }
-    }
-
-    /// The deadline of a message sent now.
-    fn next_deadline(&self, lifetime: u16) -> u64 {
-        let lifetime = match lifetime {
-            0 if !planted(Fault::LifetimeZeroMeansZero) => 1200,
-            _ => u64::from(lifetime),
-        };
-        let by_clock = match planted(Fault::DeadlineWraps) {
-            true => u64::from(self.time.wrapping_add(lifetime as u32)),
-            false => u64::from(self.time) + lifetime,
-        };
-        if planted(Fault::DeadlineByTheClockAlone) {
-            return by_clock;
-        }
-        let above = u64::from(!planted(Fault::DeadlineNotAboveHigh));
-        by_clock.max(u64::from(self.high) + above)
-    }
-
-    /// The message sent now: its predecessors are the barrier as it is.
-    fn next_message(&mut self, deadline: u32, payload: &[u8]) -> Message {
-        if planted(Fault::BarrierEmptiedBeforeFrame) {
-            self.barrier.clear();
-        }
-        let mut predecessors = self.barrier.clone();
-        if planted(Fault::LapsedEntriesStripped) {
-            predecessors.retain(|_, entry| *entry >= self.time);
-        }
-        if planted(Fault::OwnMessageInItsBarrier) {
-            predecessors.insert(self.own, deadline);
-        }
-        if planted(Fault::OwnEntryLeftOut) {
-            predecessors.remove(&self.own);
-        }
-        Message {
-            source: self.own,
-            deadline,
-            predecessors,
-            payload: payload.to_vec(),
-        }
-    }
-
-    /// Codes 2 and 9: writes the frame, empties the barrier, hands the own message and settles.
-    fn broadcast(
-        &mut self,
-        payload: &[u8],
-        deadline: u32,
-        output: &mut [u8],
-        frame: &mut [u8],
-    ) -> Answer {
-        let message = self.next_message(deadline, payload);
-        let bytes = message.frame();
-        if planted(Fault::FrameBufferCleared) {
-            frame.fill(0);
-        }
-        let written = bytes.len().min(frame.len());
-        frame[..written].copy_from_slice(&bytes[..written]);
-        if !planted(Fault::BarrierNotEmptied) {
-            self.barrier.clear();
-        }
-        let mut log = Log::new(output);
-        if planted(Fault::OwnMessageLast) {
-            self.check_pending_messages(&mut log);
-        }
-        self.perform_delivery(&message, &mut log);
-        if !planted(Fault::SendDoesNotSettle) {
-            self.check_pending_messages(&mut log);
-        }
-        accepted(log.count(), bytes.len())
     }
 
     /// Codes 5 and 11: a message that is ready is handed, and any other waits. Then the panel

@@ -1,5 +1,5 @@
-//! Planted faults: plausible mistakes of a reader of document 01, each at one place of the second
-//! implementation. A thread switches one on for itself; without that there is none.
+//! Planted faults: plausible mistakes of a reader of documents 01 and 02, each at one place of the
+//! second implementation. A thread switches one on for itself; without that there is none.
 
 use std::cell::Cell;
 
@@ -76,6 +76,8 @@ faults! {
     DeadlineNotAboveHigh: "the deadline may be equal to high",
     DeadlineWraps: "time + lifetime is taken in 32 bits",
     LifetimeZeroMeansZero: "lifetime 0 means 0",
+    DefaultAsItWas: "lifetime 0 means 1,200, as before",
+    ShorterThanDefaultRaised: "a lifetime below the default is raised to it",
     LastDeadlineRefused: "24 one early",
     DeadlinePastLastSent: "24 one late",
     // The order of the refusals.

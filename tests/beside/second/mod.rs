@@ -1,6 +1,6 @@
-//! A second implementation of the message module, written from document 01 and, for the algorithm,
-//! from codes 1 to 13 of source document 004. It shares nothing with the module. Simple and slow
-//! code is preferred here over clever code.
+//! A second implementation of the message module, written from document 01 with the changes of
+//! document 02 and, for the algorithm, from codes 1 to 13 of source document 004. It shares nothing
+//! with the module. Simple and slow code is preferred here over clever code.
 
 pub mod bundle;
 mod calls;
@@ -10,6 +10,7 @@ mod listing;
 pub mod log;
 mod message;
 mod panel;
+mod sending;
 
 pub use listing::listing;
 pub use message::{Barrier, Message};
@@ -30,6 +31,8 @@ pub const LOG_RECORD: usize = 38;
 pub const OUTPUT: usize = 1254;
 /// Bytes that the frame buffer of a send has at least, and those of the longest frame.
 pub const FRAME: usize = 307;
+/// What lifetime 0 means. Document 02, W-203: "From now on 0 means 7,200."
+pub const DEFAULT_LIFETIME: u16 = 7200;
 
 /// What a call answers: 0 or the number of its refusal, how many log records stand in the output,
 /// and how many bytes of a frame in the frame buffer.

@@ -5,12 +5,18 @@ use crate::hexadecimal;
 use crate::second::{FRAME, OUTPUT};
 use std::fmt;
 
-/// A call on a record. `output` and `frame` (of a send) are the lengths of the lent buffers.
+/// A call on a record. `output` and `frame` (of a send or beacon) are the lengths of the lent
+/// buffers.
 #[derive(Clone, Debug)]
 pub enum Call {
     Send {
         payload: Vec<u8>,
         lifetime: u16,
+        output: usize,
+        frame: usize,
+    },
+    Beacon {
+        payload: Vec<u8>,
         output: usize,
         frame: usize,
     },
@@ -35,6 +41,15 @@ impl Call {
         }
     }
 
+    /// A beacon whose buffers are exactly long enough.
+    pub fn beacon(payload: &[u8]) -> Call {
+        Call::Beacon {
+            payload: payload.to_vec(),
+            output: OUTPUT,
+            frame: FRAME,
+        }
+    }
+
     /// A receive whose output is exactly long enough.
     pub fn receive(bytes: &[u8]) -> Call {
         Call::Receive {
@@ -54,7 +69,9 @@ impl Call {
     /// The same call with buffers of these lengths.
     pub fn lent(mut self, length: usize, frame_length: usize) -> Call {
         match &mut self {
-            Call::Send { output, frame, .. } => (*output, *frame) = (length, frame_length),
+            Call::Send { output, frame, .. } | Call::Beacon { output, frame, .. } => {
+                (*output, *frame) = (length, frame_length)
+            }
             Call::Receive { output, .. } | Call::Clock { output, .. } => *output = length,
         }
         self
@@ -64,15 +81,16 @@ impl Call {
     pub fn output(&self) -> usize {
         match self {
             Call::Send { output, .. }
+            | Call::Beacon { output, .. }
             | Call::Receive { output, .. }
             | Call::Clock { output, .. } => *output,
         }
     }
 
-    /// The length of the frame buffer, 0 but for a send.
+    /// The length of the frame buffer, 0 but for a send or beacon.
     pub fn frame(&self) -> usize {
         match self {
-            Call::Send { frame, .. } => *frame,
+            Call::Send { frame, .. } | Call::Beacon { frame, .. } => *frame,
             _ => 0,
         }
     }
@@ -80,7 +98,7 @@ impl Call {
     /// The bytes that are given to the call.
     pub fn input(&self) -> &[u8] {
         match self {
-            Call::Send { payload, .. } => payload,
+            Call::Send { payload, .. } | Call::Beacon { payload, .. } => payload,
             Call::Receive { bytes, .. } => bytes,
             Call::Clock { .. } => &[],
         }
@@ -93,6 +111,11 @@ impl Call {
             ["send", payload, lifetime, output, frame] => Some(Call::Send {
                 payload: hexadecimal::read(payload)?,
                 lifetime: lifetime.parse().ok()?,
+                output: output.parse().ok()?,
+                frame: frame.parse().ok()?,
+            }),
+            ["beacon", payload, output, frame] => Some(Call::Beacon {
+                payload: hexadecimal::read(payload)?,
                 output: output.parse().ok()?,
                 frame: frame.parse().ok()?,
             }),
@@ -121,6 +144,7 @@ impl fmt::Display for Call {
             } => {
                 write!(text, "send {input} {lifetime} {output} {frame}")
             }
+            Call::Beacon { output, frame, .. } => write!(text, "beacon {input} {output} {frame}"),
             Call::Receive { output, .. } => write!(text, "receive {input} {output}"),
             Call::Clock { reading, output } => write!(text, "clock {reading} {output}"),
         }

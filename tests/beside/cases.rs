@@ -1,5 +1,6 @@
 //! Document 01's bench cases, with the values of documents 01 and 02, on both implementations.
 
+use crate::beacons;
 use crate::bundles::printed;
 use crate::calls::Call;
 use crate::compare::{Both, Pair};
@@ -9,11 +10,11 @@ use crate::side::{Found, Side};
 use std::path::Path;
 
 /// Messages of a log: source, deadline and payload.
-type Log<'log> = &'log [(u8, u32, &'log [u8])];
+pub type Log<'log> = &'log [(u8, u32, &'log [u8])];
 
 /// All cases. Those of the text need the program `list`.
 pub fn run(both: &mut Both, program: &Path) -> Result<(), Found> {
-    let cases: [fn(&mut Both) -> Result<(), Found>; 10] = [
+    let cases: [fn(&mut Both) -> Result<(), Found>; 11] = [
         cases_1_to_3,
         case_4,
         case_5,
@@ -24,6 +25,7 @@ pub fn run(both: &mut Both, program: &Path) -> Result<(), Found> {
         case_10,
         case_11,
         sizes,
+        beacons::run,
     ];
     for case in cases {
         case(both)?;
@@ -42,9 +44,9 @@ fn records(both: &Both, count: usize) -> Vec<(u8, u32, Vec<u8>)> {
         .collect()
 }
 
-/// A call that is accepted and hands these messages; the frame of a send.
-fn hands(both: &mut Both, pair: &mut Pair, call: Call, log: Log) -> Result<Vec<u8>, Found> {
-    let answer = both.call(pair, &call)?;
+/// A call that is accepted and hands these messages; the frame of a send or beacon.
+pub fn hands(both: &mut Both, pair: &mut Pair, call: Call, log: Log) -> Result<Vec<u8>, Found> {
+    let answer = beacons::call(both, pair, &call)?;
     let given = records(both, answer.count);
     let expected: Vec<_> = log
         .iter()
@@ -61,8 +63,8 @@ fn hands(both: &mut Both, pair: &mut Pair, call: Call, log: Log) -> Result<Vec<u
 }
 
 /// A call that is refused with this number.
-fn refuses(both: &mut Both, pair: &mut Pair, call: Call, number: u8) -> Result<(), Found> {
-    let answer = both.call(pair, &call)?;
+pub fn refuses(both: &mut Both, pair: &mut Pair, call: Call, number: u8) -> Result<(), Found> {
+    let answer = beacons::call(both, pair, &call)?;
     match answer.number == number {
         true => Ok(()),
         false => {
@@ -72,7 +74,7 @@ fn refuses(both: &mut Both, pair: &mut Pair, call: Call, number: u8) -> Result<(
     }
 }
 
-fn is(name: &str, holds: bool) -> Result<(), Found> {
+pub fn is(name: &str, holds: bool) -> Result<(), Found> {
     match holds {
         true => Ok(()),
         false => Err(Found::new(format!("bench case: not so: {name}"))),

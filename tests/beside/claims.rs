@@ -82,7 +82,9 @@ impl Claims {
             return;
         }
         match call {
-            Call::Send { .. } => self.sent(panel, &frame[..answer.length.min(frame.len())]),
+            Call::Send { .. } | Call::Beacon { .. } => {
+                self.sent(panel, &frame[..answer.length.min(frame.len())])
+            }
             Call::Receive { bytes, .. } => match self.frames.get(bytes) {
                 Some(message) => self.panels[panel].taken.insert(*message),
                 None => self.void = true,

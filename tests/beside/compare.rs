@@ -13,6 +13,7 @@ use crate::second::{self, Answer};
 use crate::side::{call_second, Found, Side};
 
 /// A panel in both implementations, and what was done with it.
+#[derive(Clone)]
 pub struct Pair {
     pub module: Box<Record>,
     second: second::Panel,
@@ -60,11 +61,31 @@ impl Both {
         }
     }
 
+    /// Makes a call, before it another on an equal panel with the same bytes lent, and compares the
+    /// two: answers, all bytes lent, and every byte of the records.
+    pub fn call_as(&mut self, pair: &mut Pair, call: &Call, other: &Call) -> Result<Answer, Found> {
+        let (mut equal, random) = (pair.clone(), self.random.clone());
+        let by_other = self.call(&mut equal, other)?;
+        let other_room = self.room.clone();
+        self.random = random;
+        let answer = self.call(pair, call)?;
+        let same_record = equal.module.bytes() == pair.module.bytes();
+        let same_room = self.room.difference(&other_room).is_none();
+        match answer == by_other && same_record && same_room {
+            true => Ok(answer),
+            false => {
+                let what = format!("{answer}, but another result of\n{other}\n{by_other}");
+                Err(Found::new(what).with(self.script(pair)))
+            }
+        }
+    }
+
     /// Makes the call on the module.
     fn call_module(&mut self, record: &mut Record, call: &Call) -> Answer {
         let [input, output, frame] = self.room.lent();
         match call {
             Call::Send { lifetime, .. } => record.send(input, *lifetime, output, frame),
+            Call::Beacon { .. } => record.beacon(input, output, frame),
             Call::Receive { .. } => record.receive(input, output),
             Call::Clock { reading, .. } => record.clock(*reading, output),
         }

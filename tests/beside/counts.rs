@@ -8,9 +8,10 @@ use std::fmt::Write;
 /// Numbers go up to 26.
 const NUMBERS: usize = 27;
 /// What answers a number, and which ones it has to answer in a run.
-const ASKED: [(&str, &[u8]); 5] = [
+const ASKED: [(&str, &[u8]); 6] = [
     ("fresh", &[0, 11]),
     ("send", &[0, 9, 10, 24, 26]),
+    ("beacon", &[0, 9, 10, 24, 26]),
     (
         "receive",
         &[0, 1, 2, 3, 4, 5, 6, 7, 8, 10, 20, 21, 22, 23, 26],
@@ -43,7 +44,7 @@ impl Counts {
     }
 
     pub fn check(&mut self, number: u8) {
-        self.count(4, number);
+        self.count(5, number);
     }
 
     pub fn lists(&mut self, done: &Done) {
@@ -54,13 +55,14 @@ impl Counts {
     pub fn call(&mut self, call: &Call, answer: Answer, waiting: usize) {
         let asked = match call {
             Call::Send { .. } => 1,
-            Call::Receive { .. } => 2,
-            Call::Clock { .. } => 3,
+            Call::Beacon { .. } => 2,
+            Call::Receive { .. } => 3,
+            Call::Clock { .. } => 4,
         };
         self.count(asked, answer.number);
         self.records += answer.count as u64;
         if answer.number == 0 {
-            self.waited += u64::from(asked == 2 && answer.count == 0);
+            self.waited += u64::from(asked == 3 && answer.count == 0);
             self.several += u64::from(answer.count > 1);
             self.most_handed = self.most_handed.max(answer.count);
             self.most_waiting = self.most_waiting.max(waiting);
@@ -75,7 +77,7 @@ impl Counts {
 
     /// All calls but those of the frame check.
     pub fn calls(&self) -> u64 {
-        self.answered[..4].iter().flatten().sum()
+        self.answered[..5].iter().flatten().sum()
     }
 
     /// Each number that was never answered where document 01 has it.
@@ -115,7 +117,10 @@ impl Counts {
     fn rows(&self) -> [(u64, &'static str); 14] {
         let spoken = self.lists.spoken;
         [
-            (self.calls(), "calls of fresh, send, receive and clock"),
+            (
+                self.calls(),
+                "calls of fresh, send, beacon, receive and clock",
+            ),
             (self.lists.calls, "of them in lists"),
             (self.lists.lists, "lists"),
             (self.records, "log records"),

@@ -72,7 +72,7 @@ impl<'side, S: Side> Farm<'side, S> {
         }
         if answer.number == 0 {
             match call {
-                Call::Send { .. } => {
+                Call::Send { .. } | Call::Beacon { .. } => {
                     let frame = self.side.frame();
                     let bytes = frame[..answer.length.min(frame.len())].to_vec();
                     self.frames.push(bytes);
@@ -120,10 +120,15 @@ impl<'side, S: Side> Farm<'side, S> {
         call.lent(output, FRAME + longer(&mut self.random))
     }
 
+    /// A send, or in its place a beacon.
     pub fn send(&mut self, place: usize) -> Result<(), Found> {
         let payload = compose::payload(&mut self.random);
         let lifetime = self.plan.lifetimes.any(&mut self.random);
-        let call = self.lent(Call::send(&payload, lifetime));
+        let call = match self.random.chance(self.plan.beacons) {
+            true => Call::beacon(&payload),
+            false => Call::send(&payload, lifetime),
+        };
+        let call = self.lent(call);
         self.call(place, &call).map(|_| ())
     }
 

@@ -46,6 +46,16 @@ pub fn run<S: Side>(side: &mut S, seed: u64, calls: u64, all_lawful: bool) -> Re
     Ok(done)
 }
 
+/// A send or a beacon of a payload that may be too long.
+fn odd_send(random: &mut Random) -> Call {
+    let length = random.pick(&[0, 32, 33, 34, 64, 255, 256, 300, 65_536]);
+    let payload = random.bytes(length);
+    match random.chance(40) {
+        true => Call::beacon(&payload),
+        false => Call::send(&payload, random.pick(&[0, 1, 1000, u16::MAX])),
+    }
+}
+
 impl<S: Side> Farm<'_, S> {
     /// Makes the calls of the list, and checks the claims at its end.
     fn run(&mut self) -> Result<Spoken, Found> {
@@ -76,10 +86,7 @@ impl<S: Side> Farm<'_, S> {
         let random = &mut self.random;
         let (number, time) = (self.members[place].number, self.members[place].time);
         let call = match random.below(4) {
-            0 => {
-                let length = random.pick(&[0, 32, 33, 34, 64, 255, 256, 300, 65_536]);
-                Call::send(&random.bytes(length), random.pick(&[0, 1, 1000, u16::MAX]))
-            }
+            0 => odd_send(random),
             1 => {
                 let back = random.any_size().min(time);
                 Call::clock(time - back.min(random.pick(&[0, 1, u32::MAX])))

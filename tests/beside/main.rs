@@ -1,6 +1,7 @@
 //! A second implementation beside the module: makes the same calls on both and compares them, and
 //! checks the claims of demand 3 on what the module wrote.
 
+mod beacons;
 mod bits;
 mod bundles;
 mod calls;
@@ -89,7 +90,7 @@ fn compare_all(options: &Options, both: &mut Both) -> Result<(), Found> {
         println!("{name}: {words}");
         move |found: Found| found.within(format!("part {name}"))
     };
-    let named = part("cases", "document 01's bench cases 1 to 12");
+    let named = part("cases", "document 01's bench cases 1 to 12, and beacons");
     cases::run(both, list).map_err(named)?;
     let named = part("bundles", "bundles at every place, and logs at every index");
     bundles::readers(both, seed, calls / 1_000 + 1).map_err(named)?;

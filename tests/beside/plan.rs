@@ -1,7 +1,7 @@
 //! What kind of list is made: how many panels and calls, how the clocks go, who passes what on.
 
 use crate::random::Random;
-use crate::second::DEFAULT_LIFETIME;
+use crate::second::{BEACON_LIFETIME, DEFAULT_LIFETIME};
 
 /// How far the clocks of the panels are apart.
 #[derive(Clone, Copy)]
@@ -58,7 +58,7 @@ impl Lifetimes {
                 0 => 0,
                 1 => 1,
                 2 => random.next() as u16,
-                3 => DEFAULT_LIFETIME,
+                3 => random.pick(&[BEACON_LIFETIME, DEFAULT_LIFETIME]),
                 _ => random.below(300) as u16,
             },
         }
@@ -85,6 +85,8 @@ pub struct Plan {
     /// How many clock calls in a hundred jump ahead.
     pub jumps: usize,
     pub lifetimes: Lifetimes,
+    /// How many sends in a hundred are beacons.
+    pub beacons: usize,
     pub order: Order,
     /// How many frames in a hundred are lost at a contact.
     pub lost: usize,
@@ -127,6 +129,7 @@ impl Plan {
             clock_step: random.pick(&[0, 1, 3, 30]),
             jumps: random.pick(&[0, 0, 0, 2]),
             lifetimes: random.pick(&[Lifetimes::Short, Lifetimes::Default, Lifetimes::Any]),
+            beacons: random.pick(&[0, 0, 10, 50]),
             order: random.pick(&[Any, Any, OldestFirst, NewestFirst]),
             lost: random.pick(&[0, 5, 30]),
             most_passed: random.pick(&[2, 8, 50]),

@@ -1,6 +1,7 @@
 //! Calls on records that no list need ever reach: whatever 26 lets through, and records broken in
 //! each of its ways.
 
+use crate::beacons;
 use crate::calls::Call;
 use crate::compare::Both;
 use crate::compose;
@@ -11,6 +12,8 @@ use crate::side::{Found, Side};
 
 /// The ways in which a record is broken.
 const WAYS: u64 = 14;
+/// The kinds of calls: send, beacon, receive and clock.
+const KINDS: usize = 4;
 /// Lifetimes of interest.
 const LIFETIMES: [u16; 11] = [0, 1, 2, 3, 1199, 1200, 1201, 7199, 7200, 7201, u16::MAX];
 
@@ -25,14 +28,14 @@ pub fn run(both: &mut Both, seed: u64, records: u64) -> Result<(), Found> {
         let mut kept = sound(&numbers, &mut random);
         let mut pair = both.kept(&kept);
         for _ in 0..random.between(1, 4) {
-            let call = any_call(random.below(3), &kept, &numbers, &mut random);
-            both.call(&mut pair, &call)
+            let call = any_call(random.below(KINDS), &kept, &numbers, &mut random);
+            beacons::call(both, &mut pair, &call)
                 .map_err(|found| found.within(format!("record {round}")))?;
         }
         let way = round % WAYS;
         damage(&mut kept, way, &mut random);
         let mut pair = both.kept(&kept);
-        for kind in 0..3 {
+        for kind in 0..KINDS {
             let call = any_call(kind, &kept, &numbers, &mut random);
             let answer = both
                 .call(&mut pair, &call)
@@ -146,19 +149,21 @@ fn any_frame(kept: &Kept, numbers: &[u32], random: &mut Random) -> Vec<u8> {
     frame
 }
 
-/// A call of this kind: send, receive or clock.
+/// A payload, at times too long.
+fn any_payload(random: &mut Random) -> Vec<u8> {
+    let length = random.between(33, 40);
+    match random.chance(10) {
+        true => random.bytes(length),
+        false => compose::payload(random),
+    }
+}
+
+/// A call of this kind.
 fn any_call(kind: usize, kept: &Kept, numbers: &[u32], random: &mut Random) -> Call {
     let call = match kind {
-        0 => {
-            let length = random.between(33, 40);
-            let payload = match random.chance(10) {
-                true => random.bytes(length),
-                false => compose::payload(random),
-            };
-            let lifetime = random.pick(&LIFETIMES);
-            Call::send(&payload, lifetime)
-        }
-        1 => {
+        0 => Call::send(&any_payload(random), random.pick(&LIFETIMES)),
+        1 => Call::beacon(&any_payload(random)),
+        2 => {
             let frame = any_frame(kept, numbers, random);
             match random.below(12) {
                 // The one that a chain waits for.

@@ -13,7 +13,7 @@ const FRAME: usize = 2;
 
 /// A room in which input, output and frame buffer of a call lie, in any order and close together.
 /// Nobody may touch the rest of the room.
-#[derive(Default)]
+#[derive(Clone, Default)]
 pub struct Room {
     bytes: Vec<u8>,
     parts: [Range<usize>; 3],

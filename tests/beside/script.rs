@@ -1,6 +1,7 @@
 //! What was done with one panel, as text that can be run again: how its record starts, a line, and
 //! then its calls, a line each.
 
+use crate::beacons;
 use crate::calls::Call;
 use crate::compare::{Both, Pair};
 use crate::kept::Kept;
@@ -76,7 +77,7 @@ impl Script {
     pub fn run(&self, both: &mut Both, told: impl Fn(&Call, String)) -> Result<(), Found> {
         let mut pair = self.first(both)?;
         for call in &self.calls {
-            let answer = both.call(&mut pair, call)?;
+            let answer = beacons::call(both, &mut pair, call)?;
             told(call, answer.to_string());
         }
         Ok(())

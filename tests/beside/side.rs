@@ -59,6 +59,7 @@ pub fn call_second(panel: &mut second::Panel, call: &Call, room: &mut Room) -> A
     let [input, output, frame] = room.lent();
     match call {
         Call::Send { lifetime, .. } => panel.send(input, *lifetime, output, frame),
+        Call::Beacon { .. } => panel.beacon(input, output, frame),
         Call::Receive { .. } => panel.receive(input, output),
         Call::Clock { reading, .. } => panel.clock(*reading, output),
     }

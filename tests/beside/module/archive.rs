@@ -35,6 +35,10 @@ extern "C" {
         marks: *mut u32, barrier: *mut u32, slots: *mut u8, payload: *const u8,
         payload_length: usize, lifetime: u16, output: *mut u8, output_length: usize,
         frame: *mut u8, frame_length: usize) -> PartsAnswer;
+    pub fn panel_beacon_parts(own: u8, time: u32, high: *mut u32, count: *mut usize,
+        marks: *mut u32, barrier: *mut u32, slots: *mut u8, payload: *const u8,
+        payload_length: usize, output: *mut u8, output_length: usize, frame: *mut u8,
+        frame_length: usize) -> PartsAnswer;
     pub fn panel_receive_parts(own: u8, time: u32, high: *mut u32, count: *mut usize,
         marks: *mut u32, barrier: *mut u32, slots: *mut u8, frame: *const u8,
         frame_length: usize, output: *mut u8, output_length: usize) -> PartsAnswer;

@@ -58,6 +58,26 @@ impl Record {
         })
     }
 
+    pub fn beacon(&mut self, payload: &mut [u8], output: &mut [u8], frame: &mut [u8]) -> Answer {
+        answer(unsafe {
+            panel_beacon_parts(
+                self.own,
+                self.time,
+                &mut self.high,
+                &mut self.count,
+                self.marks.as_mut_ptr(),
+                self.barrier.as_mut_ptr(),
+                self.slots.as_mut_ptr(),
+                payload.as_ptr(),
+                payload.len(),
+                output.as_mut_ptr(),
+                output.len(),
+                frame.as_mut_ptr(),
+                frame.len(),
+            )
+        })
+    }
+
     pub fn receive(&mut self, frame: &mut [u8], output: &mut [u8]) -> Answer {
         answer(unsafe {
             panel_receive_parts(

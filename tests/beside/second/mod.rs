@@ -33,6 +33,9 @@ pub const OUTPUT: usize = 1254;
 pub const FRAME: usize = 307;
 /// What lifetime 0 means. Document 02, W-203: "From now on 0 means 7,200."
 pub const DEFAULT_LIFETIME: u16 = 7200;
+/// The lifetime of a beacon. Document 02, W-203: "give it a call of its own, which answers in
+/// everything as a send with lifetime 1,200".
+pub const BEACON_LIFETIME: u16 = 1200;
 
 /// What a call answers: 0 or the number of its refusal, how many log records stand in the output,
 /// and how many bytes of a frame in the frame buffer.

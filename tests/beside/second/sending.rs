@@ -1,9 +1,32 @@
-//! Send: the source's code 9, with document 01's refusals in front.
+//! Send and beacon: the source's code 9, with document 01's refusals in front.
 
 use super::calls::short;
 use super::faults::{planted, Fault};
 use super::log::Log;
-use super::{accepted, first, refused, Answer, Message, Panel, DEFAULT_LIFETIME, FRAME, PAYLOAD};
+use super::{accepted, first, refused, Answer, Message, Panel};
+use super::{BEACON_LIFETIME, DEFAULT_LIFETIME, FRAME, LOG_RECORD, PAYLOAD};
+
+/// What is sent. That it is a beacon makes a difference to planted faults only.
+struct Note<'payload> {
+    payload: &'payload [u8],
+    lifetime: u16,
+    beacon: bool,
+}
+
+impl Note<'_> {
+    /// Whether this is a beacon, with this fault planted.
+    fn wrong(&self, fault: Fault) -> bool {
+        self.beacon && planted(fault)
+    }
+
+    /// The payload, which may be too long.
+    fn payload(&self) -> &[u8] {
+        match self.wrong(Fault::BeaconPayloadCut) {
+            true => &self.payload[..self.payload.len().min(PAYLOAD)],
+            false => self.payload,
+        }
+    }
+}
 
 /// How many seconds a lifetime stands for.
 fn seconds(lifetime: u16) -> u64 {
@@ -26,7 +49,34 @@ impl Panel {
         output: &mut [u8],
         frame: &mut [u8],
     ) -> Answer {
-        let deadline = self.next_deadline(lifetime);
+        let lifetime = match lifetime {
+            BEACON_LIFETIME if planted(Fault::TwelveHundredMeansDefault) => DEFAULT_LIFETIME,
+            _ => lifetime,
+        };
+        let note = Note {
+            payload,
+            lifetime,
+            beacon: false,
+        };
+        self.send_note(&note, output, frame)
+    }
+
+    /// Sends the status beacon.
+    pub fn beacon(&mut self, payload: &[u8], output: &mut [u8], frame: &mut [u8]) -> Answer {
+        let lifetime = match planted(Fault::BeaconHasTheDefault) {
+            true => 0,
+            false => BEACON_LIFETIME,
+        };
+        let note = Note {
+            payload,
+            lifetime,
+            beacon: true,
+        };
+        self.send_note(&note, output, frame)
+    }
+
+    fn send_note(&mut self, note: &Note, output: &mut [u8], frame: &mut [u8]) -> Answer {
+        let deadline = self.next_deadline(note);
         let last = match (
             planted(Fault::LastDeadlineRefused),
             planted(Fault::DeadlinePastLastSent),
@@ -36,36 +86,52 @@ impl Panel {
             _ => u64::from(u32::MAX),
         };
         let longest = PAYLOAD + usize::from(planted(Fault::PayloadThirtyThreeSent));
-        let least_frame = FRAME - usize::from(planted(Fault::FrameBufferOneByteShortTaken));
         let number = first([
-            (26, self.broken()),
-            (10, short(output) || frame.len() < least_frame),
-            (9, payload.len() > longest),
+            (26, self.broken() && !note.wrong(Fault::BrokenSendsBeacons)),
+            (10, self.short_of_room(note, output, frame)),
+            (9, note.payload().len() > longest),
             (24, deadline > last),
         ]);
         match number {
             Some(number) => refused(number),
-            None => self.accept(|panel| panel.broadcast(payload, deadline as u32, output, frame)),
+            None => self.accept(|panel| panel.broadcast(note, deadline as u32, output, frame)),
         }
     }
 
+    /// Whether a buffer is too short.
+    fn short_of_room(&self, note: &Note, output: &[u8], frame: &[u8]) -> bool {
+        let least_frame = match note.wrong(Fault::BeaconFrameJustFits) {
+            true => 19 + 4 * self.barrier.len() + note.payload.len(),
+            false => FRAME - usize::from(planted(Fault::FrameBufferOneByteShortTaken)),
+        };
+        let short_output = match note.wrong(Fault::BeaconOutputOfOneRecord) {
+            true => output.len() < LOG_RECORD,
+            false => short(output),
+        };
+        short_output || frame.len() < least_frame
+    }
+
     /// The deadline of a message sent now.
-    fn next_deadline(&self, lifetime: u16) -> u64 {
-        let lifetime = seconds(lifetime);
+    fn next_deadline(&self, note: &Note) -> u64 {
+        let lifetime = seconds(note.lifetime);
         let by_clock = match planted(Fault::DeadlineWraps) {
             true => u64::from(self.time.wrapping_add(lifetime as u32)),
             false => u64::from(self.time) + lifetime,
         };
-        if planted(Fault::DeadlineByTheClockAlone) {
+        if planted(Fault::DeadlineByTheClockAlone) || note.wrong(Fault::BeaconByTheClockAlone) {
             return by_clock;
         }
         let above = u64::from(!planted(Fault::DeadlineNotAboveHigh));
-        by_clock.max(u64::from(self.high) + above)
+        let deadline = by_clock.max(u64::from(self.high) + above);
+        match note.wrong(Fault::BeaconStopsAtTheLast) {
+            true => deadline.min(u64::from(u32::MAX)),
+            false => deadline,
+        }
     }
 
     /// The message sent now: its predecessors are the barrier as it is.
-    fn next_message(&mut self, deadline: u32, payload: &[u8]) -> Message {
-        if planted(Fault::BarrierEmptiedBeforeFrame) {
+    fn next_message(&mut self, note: &Note, deadline: u32) -> Message {
+        if planted(Fault::BarrierEmptiedBeforeFrame) || note.wrong(Fault::BeaconWithoutEntries) {
             self.barrier.clear();
         }
         let mut predecessors = self.barrier.clone();
@@ -82,19 +148,19 @@ impl Panel {
             source: self.own,
             deadline,
             predecessors,
-            payload: payload.to_vec(),
+            payload: note.payload().to_vec(),
         }
     }
 
     /// Codes 2 and 9: writes the frame, empties the barrier, hands the own message and settles.
     fn broadcast(
         &mut self,
-        payload: &[u8],
+        note: &Note,
         deadline: u32,
         output: &mut [u8],
         frame: &mut [u8],
     ) -> Answer {
-        let message = self.next_message(deadline, payload);
+        let message = self.next_message(note, deadline);
         let bytes = message.frame();
         if planted(Fault::FrameBufferCleared) {
             frame.fill(0);
@@ -108,10 +174,29 @@ impl Panel {
         if planted(Fault::OwnMessageLast) {
             self.check_pending_messages(&mut log);
         }
-        self.perform_delivery(&message, &mut log);
-        if !planted(Fault::SendDoesNotSettle) {
+        self.hand_own(note, &message, &mut log);
+        if !planted(Fault::SendDoesNotSettle) && !note.wrong(Fault::BeaconDoesNotSettle) {
             self.check_pending_messages(&mut log);
         }
         accepted(log.count(), bytes.len())
+    }
+
+    /// Hands the own message.
+    fn hand_own(&mut self, note: &Note, message: &Message, log: &mut Log) {
+        let high = self.high;
+        match note.wrong(Fault::BeaconNotLogged) {
+            _ if note.wrong(Fault::BeaconNotHanded) => {}
+            true => self.perform_delivery(message, &mut Log::new(&mut [])),
+            false => self.perform_delivery(message, log),
+        }
+        if note.wrong(Fault::BeaconLeavesHigh) {
+            self.high = high;
+        }
+        if note.wrong(Fault::BeaconLeavesBarrier) {
+            self.barrier.clone_from(&message.predecessors);
+        }
+        if note.wrong(Fault::BeaconNotInBarrier) {
+            self.barrier.remove(&self.own);
+        }
     }
 }

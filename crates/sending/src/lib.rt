@@ -1,7 +1,7 @@
 // Send, in place on a lent record. Of the record it may touch high, count, marks, barrier and slots,
 // and beside it the output and the frame buffer; own number and time it only reads. It accepts any
-// input, and what it promises is document 01's send, for every argument. An internal crate: `exports`
-// and `by_value` have the public calls.
+// input, and what it promises is document 01's send, for every argument. An internal crate: `exports`,
+// `beacon` and `by_value` have the public calls.
 use handing::hand;
 use lifetimes::send_deadline;
 use parts::Answer;

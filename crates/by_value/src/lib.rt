@@ -1,5 +1,6 @@
-// Send, beacon, receive and clock by value, for callers in Rattle, thin over those in place. Each accepts any
-// input; what it promises is that of document 01, for every argument.
+// Send, beacon, receive and clock by value, for callers in Rattle, thin over those in place (a beacon
+// over the send by value). Each accepts any input; what it promises is that of document 01, for every
+// argument.
 mod beacon;
 mod clock;
 mod receive;

@@ -104,6 +104,7 @@ sendByValue κs given answer ended =
       buffer = now buffer′;
     }
 
+-- and so it is by value
 abbrev pub beaconByValue : Makes 3 beacon-value.ps beacon-value.r
 beaconByValue κs given answer ended =
     let (panel, (payload, buffers)) = given in

@@ -44,7 +44,7 @@ pub record Demands (M : Type 1) : Type 2 where
       → let result = defined p (send payload lifetime output buffer) in
       result .number ≡ 0 → reading width (take (result .frameLength) (result .buffer)) ≡ message (newMessage p payload lifetime)
   -- Demand 3: after every list of calls of the module, in place and by value, in which each receive is given a frame that an earlier send of
-  -- the list wrote, or is refused. The lists begin with the records that fresh gives.
+  -- the list wrote, or is refused. A beacon is a send. The lists begin with the records that fresh gives.
   pub begins-in-place : BeginsInPlace
   pub begins-by-value : BeginsByValue
   pub every-list : (list : List Run) → Follows list → Lawful (map madeOf list) → Demand3 (map madeOf list)

@@ -106,17 +106,22 @@ fn beacon(p: Panel, payload: &[u8]) -> Panel {
     pass_on(b"beacon at panel ", answer, &buffer)
 }
 
+// A fresh panel whose clock shows a time.
+fn at(own: u8, time: u32) -> Panel {
+    clock(fresh(own), time)
+}
+
 fn main() {
     print(b"cases 1 and 2\n");
-    send(send(clock(fresh(3), 100), b"OK", 0), b"", 0);
+    send(send(at(3, 100), b"OK", 0), b"", 0);
     print(b"a beacon\n");
-    beacon(clock(fresh(3), 100), b"OK");
+    beacon(at(3, 100), b"OK");
     print(b"beacons up to the last deadline\n");
-    beacon(beacon(clock(fresh(0), 4294966095), b""), b"");
+    beacon(beacon(at(0, 4294966095), b""), b"");
     print(b"case 6\n");
-    send(send(clock(fresh(0), 4294967294), b"", 1), b"", 1);
+    send(send(at(0, 4294967294), b"", 1), b"", 1);
     print(b"case 11\n");
-    clock(clock(clock(fresh(0), 50), 50), 49);
+    clock(clock(at(0, 50), 50), 49);
     print(b"a panel number above 63\n");
     fresh(64);
 }

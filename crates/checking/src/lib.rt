@@ -29,7 +29,7 @@ fn frame_number(broken: bool, output: usize, frame: &[u8]) -> u8
 }
 
 // The number of the first check that turns down a message that was read, or 0: 20, 21, 22, 23.
-fn message_number<'a, 'b>(
+pub fn message_number<'a, 'b>(
     own: u8,
     time: u32,
     count: usize,
@@ -59,7 +59,8 @@ fn message_number<'a, 'b>(
     if count < 32 {
         return 0;
     }
-    if ready(frame, marks, time) {
+    let tested = ready(frame, marks, time);
+    if tested.ready {
         return 0;
     }
     23 // 32 are waiting and it is not ready

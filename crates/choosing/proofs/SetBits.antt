@@ -67,7 +67,7 @@ and-trailing (suc k) bits pos fits = go (λ pos′. and-trailing k (bits / 2) po
 
 -- ---- the ones of a mask
 
-onesIn-add : (n more mask : ℕ) → onesIn (n + more) mask ≡ onesIn n mask + onesIn more (mask / 2 ^ n)
+pub onesIn-add : (n more mask : ℕ) → onesIn (n + more) mask ≡ onesIn n mask + onesIn more (mask / 2 ^ n)
 unfolding onesIn
 onesIn-add zero more mask = rw (div-one, zero-add more, zero-add)
 onesIn-add (suc n) more mask = rw suc-add (omega (arith, onesIn-add n more (mask / 2), ap (onesIn more) (div-half mask n)))

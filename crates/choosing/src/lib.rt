@@ -12,9 +12,16 @@ ghost use Rattle.frame.specs.Reading.{messageIn};
 ghost use Rattle.rules.specs.Panel.{met};
 ghost use Rattle.rules.specs.Panel.{ready as isReady};
 ghost use Rattle.rules.specs.Settling.{choice as choiceIn};
+ghost use Rattle.rules.specs.Visiting.{visits};
 ghost use Rattle.slots.specs.Slots.{Reads, Slots, Listed, held};
 ghost use Rattle.slots.specs.Slots.{frameAt as frameIn};
 ghost use Rattle.choosing.specs.Choice.{asking, firstIn, goesBefore, considered};
+
+// The answer of the test for ready, and how many entries of the message were visited.
+pub struct Tested {
+    pub ready: bool,
+    pub visited: usize,
+}
 
 // The message that goes first among those looked at, if one of them is ready.
 pub struct First {
@@ -34,23 +41,32 @@ fn is_met(entry: u32, mark: u32, time: u32) -> bool
     entry < time
 }
 
-// Whether the message of a readable frame is ready: from set bit to set bit of its mask.
-pub fn ready(frame: &[u8], marks: &[u32; 64], time: u32) -> bool
+// Whether the message of a readable frame is ready: from set bit to set bit of its mask, lowest first,
+// up to the first entry that is not met.
+pub fn ready(frame: &[u8], marks: &[u32; 64], time: u32) -> Tested
     requires { ⌜ Reads (now frame) ⌝ }
-    ensures { λ r. ⌜ r ≡ isReady (asking (now (marks .entry)) time) (messageIn 4 (now (frame .entry))) ⌝ }
+    ensures { λ r. ⌜ r .ready ≡ isReady (asking (now (marks .entry)) time) (messageIn 4 (now (frame .entry))) ⌝ }
+    ensures { λ r. ⌜ r .visited ≡ visits (asking (now (marks .entry)) time) (messageIn 4 (now (frame .entry))) ⌝ }
 {
     let mut bits = number_at(frame, 10, 8);
-    let mut at = 18;
+    let mut visited = 0;
     while bits != 0 {
         let panel = u64::trailing_zeros(bits) as usize;
-        let entry = number_at(frame, at, 4) as u32;
+        let entry = number_at(frame, 18 + 4 * visited, 4) as u32;
+        let with_this = visited + 1;
         if !is_met(entry, marks[panel], time) {
-            return false;
+            return Tested {
+                ready: false,
+                visited: with_this,
+            };
         }
         bits = bits & (bits - 1);
-        at += 4;
+        visited = with_this;
     }
-    true
+    Tested {
+        ready: true,
+        visited,
+    }
 }
 
 // Whether a message goes before the one found.
@@ -83,7 +99,8 @@ fn consider<'a, 'b>(
             return first;
         }
     }
-    if !ready(frame, marks, time) {
+    let tested = ready(frame, marks, time);
+    if !tested.ready {
         return first;
     }
     First {

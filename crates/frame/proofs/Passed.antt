@@ -2,7 +2,7 @@
 use mathlib.Core.Path.{_≡_, refl, sym}
 use mathlib.Core.Bool.{true}
 use mathlib.Core.List.{List, _++_, flatten, append-nil}
-use Prim.Native.Nat.{ℕ, zero, suc, _+_, _*_, _≤_, _<_}
+use Prim.Native.Nat.{ℕ, zero, suc, _+_, _*_, _^_, _≤_, _<_}
 use native.Mathlib.Nat.{le-of-eq, le-antisymm}
 use native.Mathlib.Omega.{arith}
 use lib.ListN.{length, take, drop, length-drop, take-append-drop}
@@ -102,19 +102,25 @@ module _ (width : ℕ) (bs : List ℕ) (p : Passed width bs) where
   unfolding messageIn
   start-passed = rw (reading-zero width bs (passed-zero width bs p), length-drop) (omega (arith, p .room))
 
--- ---- bytes that pass are the frame of their message
+-- ---- the entries of bytes that pass, apart and together again
 
-module _ (width : ℕ) (bs : List ℕ) (b : Bytes bs) (p : Passed width bs) where
+module _ (width : ℕ) (bs : List ℕ) (p : Passed width bs) (fits : maskIn width bs < 2 ^ 64) where
   apart : (present (messageIn width bs .entries) ≡ entriesIn width bs) × (maskOf (messageIn width bs .entries) ≡ maskIn width bs)
   unfolding messageIn
   apart =
-      present-byPanel 64 (maskIn width bs) (entriesIn width bs) (numberAt-lt bs (6 + width) 8 b (omega (arith, p .room)))
+      present-byPanel 64 (maskIn width bs) (entriesIn width bs) fits
       (sym (length-numbersAt bs (14 + width) width (countIn width bs)))
       (eachEarlier-pos _ _ (p .entries))
 
   -- the mask of bytes that pass is that of their message's entries
   pub maskOf-passed : maskOf (messageIn width bs .entries) ≡ maskIn width bs
   maskOf-passed = apart .1
+
+-- ---- bytes that pass are the frame of their message
+
+module _ (width : ℕ) (bs : List ℕ) (b : Bytes bs) (p : Passed width bs) where
+  pub mask-fits : maskIn width bs < 2 ^ 64
+  mask-fits = numberAt-lt bs (6 + width) 8 b (omega (arith, p .room))
 
   pub passed-readable : Readable width (messageIn width bs)
   unfolding messageIn
@@ -142,8 +148,8 @@ module _ (width : ℕ) (bs : List ℕ) (b : Bytes bs) (p : Passed width bs) wher
       let size : length (drop (payloadPlace width bs) bs) ≡ lengthIn width bs = rw length-drop (omega (arith, p .whole)) in
       rw (
         append-nil,
-        apart .1,
-        apart .0,
+        apart width bs p mask-fits .1,
+        apart width bs p mask-fits .0,
         ← p .mark,
         ← p .version,
         size,

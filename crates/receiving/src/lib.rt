@@ -42,7 +42,8 @@ fn take(
         (now (slots .entry)) (stage s (firstSlots 32) (now (marks .entry)) (now (barrier .entry)) (now (output .entry)))
         (now (slots .exit)) (stage r (firstSlots 32) (now (marks .exit)) (now (barrier .exit)) (now (output .exit))) ⌝ }
 {
-    if ready(frame, marks, s.time) {
+    let tested = ready(frame, marks, s.time);
+    if tested.ready {
         let mut rest = s;
         rest.high = hand(s.high, s.handed, marks, barrier, frame, output);
         rest.handed += 1;

@@ -2,6 +2,7 @@
 pub mod BenchCases
 pub mod Booleans
 pub mod Ready
+pub mod Visiting
 pub mod Raise
 pub mod WaitingList
 pub mod Choice
@@ -22,5 +23,6 @@ pub mod ReceiveStep
 pub mod ClockStep
 pub mod Reached
 pub mod Results
+pub mod Tracing
 pub mod Theorems
 pub mod Shams

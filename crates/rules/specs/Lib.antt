@@ -14,6 +14,7 @@ pub mod Settling
 pub mod Calls
 pub mod Refusals
 pub mod Results
+pub mod Visiting
 pub mod Lists
 pub mod Demand3
 pub mod BenchCases

@@ -97,18 +97,20 @@ ready-requires c κs = search needs
 
 returns-6 : tie.Need-returns-6
 returns-6 c =
-    let new-at = c .before .before .before in
+    let tested = c .before in
+    let new-at = tested .before .before in
     let above-at = new-at .before .before in
     let live-at = above-at .before in
-    number-ready _ _ _ _ _ _ (other (live-at .before)) (live live-at) (above above-at) (new new-at) (sym (c .before .ready .ensures) ∙ c .if6 .taken)
+    number-ready _ _ _ _ _ _ (other (live-at .before)) (live live-at) (above above-at) (new new-at) (sym (tested .ready .ensures .0) ∙ c .if6 .taken)
 
 returns-7 : tie.Need-returns-7
 returns-7 c =
-    let new-at = c .before .before .before in
+    let tested = c .before in
+    let new-at = tested .before .before in
     let above-at = new-at .before .before in
     let live-at = above-at .before in
-    number-full _ _ _ _ _ _ (other (live-at .before)) (live live-at) (above above-at) (new new-at) (omega (arith, c .before .before .if5 .left))
-    (sym (c .before .ready .ensures) ∙ c .if6 .left)
+    number-full _ _ _ _ _ _ (other (live-at .before)) (live live-at) (above above-at) (new new-at) (omega (arith, tested .before .if5 .left))
+    (sym (tested .ready .ensures .0) ∙ c .if6 .left)
 
 pub message-number-spec : {M : Type 1} → statement M
 message-number-spec =

@@ -37,8 +37,8 @@ first-so-far c =
     (c .if1 .came)
 
 is-ready : (c : tie.After-ready) → let s = start (c .before .before) in
-    c .ready .result ≡ ready (asking (s .args .marks .now) (s .args .time)) (m s)
-is-ready c = rw (c .before .before .kept-frame .ensures) at (c .ready .ensures)
+    c .ready .result .ready ≡ ready (asking (s .args .marks .now) (s .args .time)) (m s)
+is-ready c = rw (c .before .before .kept-frame .ensures) at (c .ready .ensures .0)
 
 kept-frame-requires : tie.Need-kept-frame-requires
 kept-frame-requires c κs = let s = c .before in (s .pre .0, s .pre .1, reads-fits _ _ (s .pre .2))
@@ -65,23 +65,24 @@ ready-requires c κs = reads (c .before)
 
 returns-2 : tie.Need-returns-2
 returns-2 c =
-    let s = start (c .before .before .before) in
-    sym (considered-unready _ _ (m s) _ (sym (is-ready (c .before)) ∙ not-true _ (c .if3 .taken)))
+    let tested = c .before .before in
+    let s = start (tested .before .before) in
+    sym (considered-unready _ _ (m s) _ (sym (is-ready tested) ∙ not-true _ (c .if3 .taken)))
 
 deadline-requires-2 : tie.Need-deadline-requires-2
-deadline-requires-2 c κs = reads (c .before .before .before)
+deadline-requires-2 c κs = reads (c .before .before .before .before)
 
 source-requires-2 : tie.Need-source-requires-2
-source-requires-2 c κs = reads (c .before .before .before .before)
+source-requires-2 c κs = reads (c .before .before .before .before .before)
 
 returns-3 : tie.Need-returns-3
 returns-3 c =
     let due = c .before in
-    let ready = due .before .before in
-    let kept = ready .before .before in
+    let tested = due .before .before .before in
+    let kept = tested .before .before in
     let s = start kept in
     rw (due .deadline2 .ensures, c .source2 .ensures, kept .kept-frame .ensures)
-    (sym (considered-ready _ (s .args .place) (m s) (s .args .first) (first-so-far (ready .before)) (sym (is-ready ready) ∙ not-false _ (due .before .if3 .left))))
+    (sym (considered-ready _ (s .args .place) (m s) (s .args .first) (first-so-far (tested .before)) (sym (is-ready tested) ∙ not-false _ (due .before .if3 .left))))
 
 pub consider-spec : {M : Type 1} → statement M
 consider-spec =

@@ -1,7 +1,8 @@
--- `choosing::ready` meets its contract. Its loop's invariant is `MetBelow`: the entries of the panels so far are met. Assumes nothing.
+-- `choosing::ready` meets its contract. Its loop's invariant is `MetBelow`: the entries of the panels so far are met, and were visited. Assumes
+-- nothing.
 mod Turns
 use mathlib.Core.Path.{_≡_, sym, _∙_, subst}
-use Prim.Native.Nat.{ℕ, _+_, _-_, _^_, _≤_, _<_}
+use Prim.Native.Nat.{ℕ, _+_, _-_, _*_, _^_, _≤_, _<_}
 use native.Mathlib.Omega.{arith}
 use borrow.Author.Needs.{needs}
 use borrow.Author.Tests.{not-true, not-false}
@@ -11,15 +12,15 @@ use lib.Bits.{and-le-r}
 use Rattle.numbers.specs.Numbers.{numberAt}
 use Rattle.frame.proofs.Passed.{zero-passed}
 use Rattle.choosing.proofs.SetBits.{next}
-use Rattle.choosing.proofs.ready.Proof.Turns.{MetBelow, metBy, met-start, met-end, turn-lt, turn-room, turn-stop, turn-on}
+use Rattle.choosing.proofs.ready.Proof.Turns.{MetBelow, metBy, met-start, end-ready, end-visits, turn-lt, turn-room, stop-ready, stop-visits, turn-on}
 use Rattle.choosing.proofs.ready.Statement.{statement}
 use Rattle.choosing.proofs.ready.Tie as tie
 
 abbrev Inv-loop : tie.InvT-loop
-Inv-loop frame marks time bits₀ at₀ bits at = MetBelow frame marks time bits at
+Inv-loop frame marks time bits₀ visited₀ bits visited = MetBelow frame marks time bits visited
 
 abbrev μ-loop : tie.MeasureT-loop
-μ-loop frame marks time bits₀ at₀ bits at = bits
+μ-loop frame marks time bits₀ visited₀ bits visited = bits
 
 number-at-requires : tie.Need-number-at-requires Inv-loop μ-loop
 number-at-requires c κs = omega (arith, zero-passed 4 _ (c .before .pre) .long)
@@ -28,14 +29,14 @@ loop-holds : tie.Need-loop-holds Inv-loop μ-loop
 loop-holds c =
     let a = c .before .before .args in
     let mask = c .number-at .ensures .0 in
-    subst (λ (bits : ℕ). MetBelow (now (a .frame)) (now (a .marks)) (a .time) bits 18) (sym mask)
+    subst (λ (bits : ℕ). MetBelow (now (a .frame)) (now (a .marks)) (a .time) bits 0) (sym mask)
     (met-start (now (a .frame)) (now (a .marks)) (a .time) (subst (λ (bits : ℕ). bits < 2 ^ 64) mask (c .number-at .ensures .1)))
 
 -- in a turn the panel is one of 64, and its entry stands within the frame
 below : (c : tie.In-loop Inv-loop μ-loop) → next (c .before .loop .bits) < 64
 below c = turn-lt _ _ _ _ _ (c .before .loop .inv) (c .loop-test .taken)
 
-room : (c : tie.In-loop Inv-loop μ-loop) → c .before .loop .at + 4 ≤ length (now (c .before .before .before .before .args .frame))
+room : (c : tie.In-loop Inv-loop μ-loop) → 18 + 4 * c .before .loop .visited + 4 ≤ length (now (c .before .before .before .before .args .frame))
 room c =
     let passed = zero-passed 4 _ (c .before .before .before .before .pre) in
     omega (arith, turn-room _ _ _ _ _ (c .before .loop .inv) (c .loop-test .taken), passed .room)
@@ -43,11 +44,20 @@ room c =
 cast-panel : tie.Need-cast-panel Inv-loop μ-loop
 cast-panel c = omega (arith, below c)
 
+mul-number-at : tie.Need-mul-number-at Inv-loop μ-loop
+mul-number-at c = search (needs, room c)
+
+add-number-at : tie.Need-add-number-at Inv-loop μ-loop
+add-number-at c = search (needs, room c)
+
 number-at-requires-2 : tie.Need-number-at-requires-2 Inv-loop μ-loop
 number-at-requires-2 c κs = omega (arith, room c)
 
 cast-entry : tie.Need-cast-entry Inv-loop μ-loop
 cast-entry c = search needs
+
+add-with-this : tie.Need-add-with-this Inv-loop μ-loop
+add-with-this c = search (needs, room (c .before))
 
 mul-is-met : tie.Need-mul-is-met Inv-loop μ-loop
 mul-is-met c = omega (arith, below (c .before))
@@ -61,19 +71,19 @@ is-met-requires c κs = tt
 -- the entry was read from its place, and tested beside the mark of its panel
 tested : (c : tie.After-is-met Inv-loop μ-loop) → let l = c .before .before .before .before .loop in
     let a = c .before .before .before .before .before .before .before .args in
-    metBy (getD (now (a .marks)) (next (l .bits)) 0) (a .time) (numberAt (now (a .frame)) (l .at) 4) ≡ c .is-met .result
+    metBy (getD (now (a .marks)) (next (l .bits)) 0) (a .time) (numberAt (now (a .frame)) (18 + 4 * l .visited) 4) ≡ c .is-met .result
 tested c = rw (← c .before .before .number-at2 .ensures .0) (sym (c .is-met .ensures))
 
 returns : tie.Need-returns Inv-loop μ-loop
 returns c =
     let turn = c .before .before .before .before in
-    sym (turn-stop _ _ _ _ _ (turn .before .loop .inv) (turn .loop-test .taken) (tested (c .before) ∙ not-true _ (c .if1 .taken)))
+    let unmet = tested (c .before) ∙ not-true _ (c .if1 .taken) in (
+      sym (stop-ready _ _ _ _ _ (turn .before .loop .inv) (turn .loop-test .taken) unmet),
+      stop-visits _ _ _ _ _ (turn .before .loop .inv) (turn .loop-test .taken) (turn .before .before .before .before .pre) unmet,
+    )
 
 sub-bits : tie.Need-sub-bits Inv-loop μ-loop
 sub-bits c = omega (arith, c .before .before .before .before .loop-test .taken)
-
-add-at : tie.Need-add-at Inv-loop μ-loop
-add-at c = search (needs, room (c .before .before .before .before))
 
 loop-less : tie.Need-loop-less Inv-loop μ-loop
 loop-less c =
@@ -87,7 +97,10 @@ loop-again c =
     turn-on _ _ _ _ _ (turn .before .loop .inv) (turn .loop-test .taken) (tested (c .before) ∙ not-false _ (c .if1 .left))
 
 returns-2 : tie.Need-returns-2 Inv-loop μ-loop
-returns-2 c = sym (met-end _ _ _ _ _ (c .before .loop .inv) (c .loop-test .left))
+returns-2 c = (
+  sym (end-ready _ _ _ _ _ (c .before .loop .inv) (c .loop-test .left)),
+  end-visits _ _ _ _ _ (c .before .loop .inv) (c .loop-test .left) (c .before .before .before .before .pre),
+)
 
 pub ready-spec : {M : Type 1} → statement M
 ready-spec =
@@ -98,14 +111,16 @@ ready-spec =
     number-at-requires
     loop-holds
     cast-panel
+    mul-number-at
+    add-number-at
     number-at-requires-2
     cast-entry
+    add-with-this
     mul-is-met
     element-copy-out-is-met
     is-met-requires
     returns
     sub-bits
-    add-at
     loop-less
     loop-again
     returns-2)

@@ -12,7 +12,7 @@ use Rattle.numbers.proofs.NumberAt.{numberAt-one}
 use Rattle.frame.specs.Message.{byPanel}
 use Rattle.frame.specs.Reading.{countIn, refusal, messageIn}
 use Rattle.frame.proofs.Passed.{Passed, zero-passed, passed-zero, reading-zero, reading-refused, length-payload}
-use Rattle.frame.proofs.Passed.{maskOf-passed}
+use Rattle.frame.proofs.Passed.{maskOf-passed, mask-fits}
 use Rattle.frame.proofs.read.Statement.{statement}
 use Rattle.frame.proofs.read.Tie as tie
 
@@ -80,7 +80,7 @@ returns-2 c =
       refusal = 0;
       source = source i;
       deadline = deadline i;
-      mask = (mask ∙ sym (maskOf-passed 4 bs b p)) i;
+      mask = (mask ∙ sym (maskOf-passed 4 bs p (mask-fits 4 bs b p))) i;
       entries = entries i;
       «payload_length» = size i;
     })

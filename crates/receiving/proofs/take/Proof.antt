@@ -14,8 +14,8 @@ abbrev start : tie.After-ready → tie.Start
 start c = c .before .before .before .before
 
 is-ready : (c : tie.After-ready) → let a = start c .args in
-    ready (asking (now (a .marks)) (a .s .time)) (messageIn 4 (now (a .frame))) ≡ c .ready .result
-is-ready c = sym (c .ready .ensures)
+    ready (asking (now (a .marks)) (a .s .time)) (messageIn 4 (now (a .frame))) ≡ c .ready .result .ready
+is-ready c = sym (c .ready .ensures .0)
 
 few : (c : tie.Else1) → start (c .before) .args .s .waiting < 32
 few c = room-unready _ _ _ (start (c .before) .pre .1 .0) (is-ready (c .before) ∙ c .if1 .left)

@@ -1,4 +1,4 @@
--- A loop that goes from set bit to set bit of a frame's mask, and tests each entry. Assumes nothing.
+-- A loop that goes from set bit to set bit of a frame's mask, tests each entry, and counts them. Assumes nothing.
 use mathlib.Core.Path.{_≡_, refl, sym, ap, _∙_}
 use mathlib.Core.Bool.{Bool, true, false}
 use mathlib.Core.List.{List, [], _∷_}
@@ -6,7 +6,7 @@ use Prim.Native.Nat.{ℕ, zero, suc, _+_, _-_, _*_, _/_, _%_, _^_, _≤_, _<_}
 use native.Mathlib.Nat.{add-zero, div-one, zero-div, mul-one, zero-mul, one-mul}
 use native.Mathlib.Numerals.{add-one}
 use native.Mathlib.Omega.{arith}
-use lib.ListN.{getD}
+use lib.ListN.{length, getD}
 use lib.Pow.{shl-shr, shr-shr}
 use lib.Count.{onesIn}
 use lib.Bits.{bitAnd}
@@ -14,12 +14,17 @@ use borrow.Author.Tests.{le-leb}
 use Rattle.numbers.specs.Numbers.{numberAt}
 use Rattle.numbers.proofs.NumberAt.{getD-numbersAt}
 use Rattle.frame.specs.Reading.{maskIn, countIn, entriesIn, messageIn}
+use Rattle.frame.proofs.Entries.{length-byPanel}
+use Rattle.frame.proofs.Passed.{zero-passed, maskOf-passed}
 use Rattle.frame.proofs.Panels.{getD-byPanel, onesIn-lt}
 use Rattle.rules.specs.Panel.{met, lapsed, eachPanel, ready}
+use Rattle.rules.specs.Visiting.{visits, onesOf}
 use Rattle.rules.proofs.Ready.{eachPanel-true}
+use Rattle.rules.proofs.Visiting.{visits-stop, visits-counted}
+use Rattle.slots.specs.Slots.{Reads}
 use Rattle.numbers.proofs.Ones.{onesIn-zero}
 use Rattle.choosing.specs.Choice.{asking}
-use Rattle.choosing.proofs.SetBits.{from, next, More, step, next-step, next-unset, next-set, next-lt, next-rest, onesIn-next, onesIn-after}
+use Rattle.choosing.proofs.SetBits.{from, next, More, step, next-step, next-unset, next-set, next-lt, next-rest, onesIn-add, onesIn-next, onesIn-after}
 
 -- an entry beside the mark of its panel
 abbrev pub metBy : ℕ → ℕ → ℕ → Bool
@@ -69,33 +74,58 @@ module _ (bs marks : List ℕ) (time : ℕ) where
       go true e = sym (eachPanel-true 64 metAt e panel below) ∙ f
       go false e = refl
 
--- the entries of the panels below some panel are met; the bits and the place are those of the panels that are left
-pub record MetBelow (bs marks : List ℕ) (time bits at : ℕ) : Type 0 where
+-- ---- the mask of the message
+
+size-read : (bs : List ℕ) → length (messageIn 4 bs .entries) ≡ 64
+unfolding messageIn
+size-read bs = length-byPanel 64 (maskIn 4 bs) (entriesIn 4 bs)
+
+mask-ones : (bs : List ℕ) → Reads bs → maskIn 4 bs < 2 ^ 64 → onesOf (messageIn 4 bs) ≡ onesIn 64 (maskIn 4 bs)
+mask-ones bs reads fits = ap (onesIn 64) (maskOf-passed 4 bs (zero-passed 4 bs reads) fits)
+
+-- ---- the loop
+
+-- The entries of the panels below some panel are met; the bits are those of the panels that are left, and those below were visited.
+pub record MetBelow (bs marks : List ℕ) (time bits visited : ℕ) : Type 0 where
   pub panel : ℕ
   pub few : panel ≤ 64
   pub fits : maskIn 4 bs < 2 ^ 64
   pub rest : bits ≡ from panel (maskIn 4 bs)
-  pub place : at ≡ placeOf bs panel
+  pub seen : visited ≡ onesIn panel (maskIn 4 bs)
   pub all-met : eachPanel panel (metAt bs marks time) ≡ true
 
 module _ (bs marks : List ℕ) (time : ℕ) where
-  pub met-start : maskIn 4 bs < 2 ^ 64 → MetBelow bs marks time (maskIn 4 bs) 18
+  pub met-start : maskIn 4 bs < 2 ^ 64 → MetBelow bs marks time (maskIn 4 bs) 0
   unfolding eachPanel onesIn
-  met-start fits = record { panel = 0; few = omega arith; fits = fits; rest = rw (div-one, mul-one); place = refl; all-met = refl }
+  met-start fits = record { panel = 0; few = omega arith; fits = fits; rest = rw (div-one, mul-one); seen = refl; all-met = refl }
 
-  pub met-end : (bits at : ℕ) → MetBelow bs marks time bits at → bits ≡ 0 → ready (asking marks time) (messageIn 4 bs) ≡ true
+-- no bit is left
+module _ (bs marks : List ℕ) (time bits visited : ℕ) (m : MetBelow bs marks time bits visited) (none : bits ≡ 0) where
+  left-none : maskIn 4 bs / 2 ^ m .panel ≡ 0
+  left-none =
+      sym (shl-shr (maskIn 4 bs / 2 ^ m .panel) (m .panel)) ∙ ap (λ (n : ℕ). n / 2 ^ m .panel) (sym (m .rest) ∙ none) ∙ zero-div (2 ^ m .panel)
+
+  left-unset : onesIn (64 - m .panel) (maskIn 4 bs / 2 ^ m .panel) ≡ 0
+  left-unset = rw left-none (onesIn-zero (64 - m .panel))
+
+  left-all : m .panel + (64 - m .panel) ≡ 64
+  left-all = omega (arith, m .few)
+
+  pub end-ready : ready (asking marks time) (messageIn 4 bs) ≡ true
   unfolding ready
-  met-end bits at m none =
-      let panel = m .panel in
-      let left : maskIn 4 bs / 2 ^ m .panel ≡ 0
-      = sym (shl-shr (maskIn 4 bs / 2 ^ panel) panel) ∙ ap (λ (n : ℕ). n / 2 ^ panel) (sym (m .rest) ∙ none) ∙ zero-div (2 ^ panel) in
-      let unset : onesIn (64 - m .panel) (maskIn 4 bs / 2 ^ m .panel) ≡ 0 = rw left (onesIn-zero (64 - panel)) in
-      let all : panel + (64 - panel) ≡ 64 = omega (arith, m .few) in
-      ap (λ (n : ℕ). eachPanel n (metAt bs marks time)) (sym all)
-      ∙ metAt-skip bs marks time panel (64 - panel) (omega (arith, m .few)) unset (m .all-met)
+  end-ready =
+      ap (λ (n : ℕ). eachPanel n (metAt bs marks time)) (sym left-all)
+      ∙ metAt-skip bs marks time (m .panel) (64 - m .panel) (omega (arith, m .few)) left-unset (m .all-met)
+
+  -- all were visited
+  pub end-visits : Reads bs → visited ≡ visits (asking marks time) (messageIn 4 bs)
+  end-visits reads =
+      let ones : onesIn 64 (maskIn 4 bs) ≡ onesIn (m .panel) (maskIn 4 bs) + onesIn (64 - m .panel) (maskIn 4 bs / 2 ^ m .panel)
+      = ap (λ (n : ℕ). onesIn n (maskIn 4 bs)) (sym left-all) ∙ onesIn-add (m .panel) (64 - m .panel) (maskIn 4 bs) in
+      omega (arith, m .seen, ones, left-unset, mask-ones bs reads (m .fits), visits-counted (asking marks time) (messageIn 4 bs) (size-read bs) .all-met end-ready)
 
 -- a turn, to the next panel whose bit is set
-module _ (bs marks : List ℕ) (time bits at : ℕ) (m : MetBelow bs marks time bits at) (some : bits ≡ 0 → ⊥) where
+module _ (bs marks : List ℕ) (time bits visited : ℕ) (m : MetBelow bs marks time bits visited) (some : bits ≡ 0 → ⊥) where
   abbrev mask : ℕ
   mask = maskIn 4 bs
 
@@ -108,20 +138,20 @@ module _ (bs marks : List ℕ) (time bits at : ℕ) (m : MetBelow bs marks time 
   pub turn-lt : next bits < 64
   turn-lt = next-lt left
 
-  turn-place : placeOf bs (next bits) ≡ at
-  turn-place = omega (arith, m .place, onesIn-next left)
+  turn-place : placeOf bs (next bits) ≡ 18 + 4 * visited
+  turn-place = omega (arith, m .seen, onesIn-next left)
 
   -- its entry stands within the frame's entries
-  pub turn-room : at + 4 ≤ 18 + 4 * countIn 4 bs
+  pub turn-room : 18 + 4 * visited + 4 ≤ 18 + 4 * countIn 4 bs
   turn-room = omega (arith, turn-place, onesIn-lt 64 mask (next bits) turn-lt turn-set)
 
-  turn-met : metAt bs marks time (next bits) ≡ metBy (getD marks (next bits) 0) time (numberAt bs at 4)
+  abbrev pub metNow : Bool
+  metNow = metBy (getD marks (next bits) 0) time (numberAt bs (18 + 4 * visited) 4)
+
+  turn-met : metAt bs marks time (next bits) ≡ metNow
   turn-met =
       metAt-set bs marks time (next bits) turn-lt turn-set
       ∙ ap (λ (k : ℕ). metBy (getD marks (next bits) 0) time (numberAt bs k 4)) turn-place
-
-  pub turn-stop : metBy (getD marks (next bits) 0) time (numberAt bs at 4) ≡ false → ready (asking marks time) (messageIn 4 bs) ≡ false
-  turn-stop f = ready-unmet bs marks time (next bits) turn-lt (turn-met ∙ f)
 
   -- the entries of the panels before it are met
   turn-skip : eachPanel (next bits) (metAt bs marks time) ≡ true
@@ -129,7 +159,17 @@ module _ (bs marks : List ℕ) (time bits at : ℕ) (m : MetBelow bs marks time 
       rw (next-step left)
       (metAt-skip bs marks time (m .panel) (step left) (omega (arith, turn-lt, next-step left)) (next-unset left) (m .all-met))
 
-  pub turn-on : metBy (getD marks (next bits) 0) time (numberAt bs at 4) ≡ true → MetBelow bs marks time (bitAnd bits (bits - 1)) (at + 4)
+  -- it is not met: the test stops, and has visited it
+  pub stop-ready : metNow ≡ false → ready (asking marks time) (messageIn 4 bs) ≡ false
+  stop-ready f = ready-unmet bs marks time (next bits) turn-lt (turn-met ∙ f)
+
+  pub stop-visits : Reads bs → metNow ≡ false → visited + 1 ≡ visits (asking marks time) (messageIn 4 bs)
+  stop-visits reads f =
+      let stop = visits-stop (asking marks time) (messageIn 4 bs) (next bits) turn-skip (turn-met ∙ f) in
+      omega (arith, m .seen, onesIn-next left, ap (onesIn (next bits)) (maskOf-passed 4 bs (zero-passed 4 bs reads) (m .fits)), stop)
+
+  -- it is met: the test goes on
+  pub turn-on : metNow ≡ true → MetBelow bs marks time (bitAnd bits (bits - 1)) (visited + 1)
   unfolding eachPanel
   turn-on t =
       record {
@@ -137,6 +177,6 @@ module _ (bs marks : List ℕ) (time bits at : ℕ) (m : MetBelow bs marks time 
         few = omega (arith, turn-lt);
         fits = m .fits;
         rest = next-rest left;
-        place = omega (arith, m .place, onesIn-after left);
+        seen = omega (arith, m .seen, onesIn-after left);
         all-met = rw (add-one, turn-skip, turn-met) t;
       }

@@ -1,0 +1,2 @@
+-- What a trace answers.
+pub mod Shown

@@ -1,0 +1,72 @@
+// A trace, on a record that is lent in its parts and only read; include/panel.h makes of it a call on a
+// pointer to the struct. It accepts any input. A crate and an archive of its own: what a receive calls
+// stays as short as it is where nobody asks for the visits.
+use checking::message_number;
+use choosing::ready;
+use frame::frame_check;
+use parts::broken;
+ghost use mathlib.Core.Path.{_≡_};
+ghost use mathlib.Core.Bool.{cond};
+ghost use Rattle.rules.specs.Visiting.{trace};
+ghost use Rattle.parts.specs.Record.{parts, recordOf};
+ghost use Rattle.trace.specs.Shown.{shownIn};
+
+// What a receive of a frame would do: the number that it would be refused with, or 0; whether the
+// message is ready; and how many of its entries were visited. Bytes that read as no message are not
+// ready, and have no visits.
+#[repr(C)]
+pub struct Trace {
+    pub visited: usize,
+    pub ready: bool,
+    pub number: u8,
+}
+
+// The number of the first check that turns down bytes that read as no message: 26, or theirs.
+fn unread_number(broken: bool, number: u8) -> u8
+    ensures { λ r. ⌜ r ≡ cond broken 26 number ⌝ }
+{
+    if broken {
+        return 26;
+    }
+    number
+}
+
+// A frame is looked at, and nothing is changed.
+#[no_mangle]
+pub extern "C" fn panel_trace_parts<'a, 'b>(
+    own: u8,
+    time: u32,
+    high: u32,
+    count: usize,
+    marks: &'a [u32; 64],
+    barrier: &'a [u32; 64],
+    slots: &'a [u8; 9888],
+    frame: &'b [u8],
+) -> Trace
+    ensures { λ r. ⌜ shownIn r ≡ trace
+        (recordOf (parts own time high count (now (marks .entry)) (now (barrier .entry)) (now (slots .entry))))
+        (now (frame .entry)) ⌝ }
+{
+    let broken = broken(own, high, count, marks, barrier, slots);
+    let unread = frame_check(frame);
+    if unread != 0 {
+        return Trace {
+            visited: 0,
+            ready: false,
+            number: unread_number(broken, unread),
+        };
+    }
+    let tested = ready(frame, marks, time);
+    if broken {
+        return Trace {
+            visited: tested.visited,
+            ready: tested.ready,
+            number: 26,
+        };
+    }
+    Trace {
+        visited: tested.visited,
+        ready: tested.ready,
+        number: message_number(own, time, count, marks, slots, frame),
+    }
+}

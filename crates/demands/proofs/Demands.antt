@@ -2,24 +2,27 @@
 use mathlib.Core.Path.{_≡_, _∙_}
 use mathlib.Core.Bool.{true}
 use mathlib.Core.Logic.{_≢_}
-use mathlib.Core.List.{List, map}
-use Prim.Native.Nat.{ℕ}
+use mathlib.Core.List.{List, _∷_, map}
+use Prim.Native.Nat.{ℕ, _≤_}
 use native.Mathlib.Omega.{arith}
 use lib.ListN.{length, take}
 use Rattle.numbers.specs.Numbers.{Bytes}
 use Rattle.frame.specs.Message.{Message}
 use Rattle.frame.specs.Frame.{frame}
-use Rattle.frame.specs.Reading.{message, refusal, reading}
+use Rattle.frame.specs.Reading.{message, refusal, messageIn, reading}
 use Rattle.frame.specs.Readable.{readable}
 use Rattle.frame.proofs.Theorems.{reading-frame, frame-reading}
-use Rattle.rules.specs.Sizes.{width}
+use Rattle.rules.specs.Sizes.{width, outputLength}
 use Rattle.rules.specs.Panel.{Panel}
 use Rattle.rules.specs.Calls.{newMessage}
 use Rattle.rules.specs.Refusals.{Listed, freshNumber}
-use Rattle.rules.specs.Results.{Call, send, outputOf, bufferOf, refused, defined}
+use Rattle.rules.specs.Results.{Call, send, receive, outputOf, bufferOf, effectOf, refused, defined}
+use Rattle.rules.specs.Visiting.{Counted, trace}
 use Rattle.rules.specs.Lists.{Lawful}
 use Rattle.rules.specs.Demand3.{Demand3}
-use Rattle.rules.proofs.Theorems.{demand-3, number-listed, reading-listed, fresh-listed, refusal-unchanged, sent-reads}
+use Rattle.rules.proofs.Theorems.{demand-3, number-listed, reading-listed, fresh-listed, trace-listed, refusal-unchanged, sent-reads}
+use Rattle.rules.proofs.Visiting.{visits-counted}
+use Rattle.rules.proofs.Tracing.{trace-number, trace-handed}
 use Rattle.exports.proofs.Fresh.{freshRecord-within}
 use Rattle.demands.specs.Runs.{Run, madeOf}
 use Rattle.demands.specs.Beginning.{BeginsInPlace, BeginsByValue}
@@ -34,6 +37,7 @@ pub record Demands (M : Type 1) : Type 2 where
   pub numbers : (p : Panel) (call : Call) → Listed (defined p call .number)
   pub frame-numbers : (bytes : List ℕ) → Listed (refusal width bytes)
   pub fresh-numbers : (own : ℕ) → Listed (freshNumber own)
+  pub trace-numbers : (p : Panel) (bytes : List ℕ) → Listed (trace p bytes .number)
   pub refusals : (p : Panel) (call : Call) → defined p call .number ≢ 0
       → defined p call ≡ refused p (outputOf call) (bufferOf call) (defined p call .number)
   -- Demand 2: a written frame reads back as its message, and bytes that read as a message are the very bytes written for it; what a send has
@@ -48,6 +52,13 @@ pub record Demands (M : Type 1) : Type 2 where
   pub begins-in-place : BeginsInPlace
   pub begins-by-value : BeginsByValue
   pub every-list : (list : List Run) → Follows list → Lawful (map madeOf list) → Demand3 (map madeOf list)
+  -- Document 02, W-202: how many entries the test for ready visits. A trace shows the number of the receive of this frame on this record with an
+  -- output long enough; and where it shows a message to be ready, a receive that is not refused hands that message, before any other.
+  pub visits-counted : (p : Panel) (m : Message) → length (m .entries) ≡ 64 → Counted p m
+  pub trace-number : (p : Panel) (bytes output : List ℕ) → outputLength ≤ length output
+      → trace p bytes .number ≡ defined p (receive bytes output) .number
+  pub trace-handed : (p : Panel) (bytes output : List ℕ) → trace p bytes .ready ≡ true
+      → (later : List Message) × (effectOf p (receive bytes output) .handed ≡ messageIn width bytes ∷ later)
 
 -- The code keeps the demands.
 pub demands : {M : Type 1} → Demands M
@@ -57,6 +68,7 @@ demands =
       numbers = number-listed;
       frame-numbers = reading-listed;
       fresh-numbers = fresh-listed;
+      trace-numbers = trace-listed;
       refusals = refusal-unchanged;
       written-reads = λ m e. reading-frame width m (omega arith, omega arith) e;
       read-written = λ bytes m b e. frame-reading width bytes m b e;
@@ -64,4 +76,7 @@ demands =
       begins-in-place = λ κs given answer ended learnt within. learnt .1 ∙ freshRecord-within (given .0) within;
       begins-by-value = λ κs given answer ended learnt within. learnt .1 ∙ freshRecord-within (given .0) within;
       every-list = λ list follows lawful. demand-3 (map madeOf list) lawful (follows-promised list follows);
+      visits-counted = visits-counted;
+      trace-number = trace-number;
+      trace-handed = λ p bytes output ready. trace-handed p bytes ready;
     }

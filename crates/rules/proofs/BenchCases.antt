@@ -7,7 +7,7 @@ use Rattle.numbers.specs.Buffer.{over}
 use Rattle.frame.specs.Message.{maskOf, present, byPanel}
 use Rattle.frame.specs.Frame.{fields, frame}
 use Rattle.frame.specs.Refusal.{firstOf}
-use Rattle.frame.specs.Reading.{eachEarlier, checks, messageIn}
+use Rattle.frame.specs.Reading.{eachEarlier, checks, messageIn, reading}
 use Rattle.frame.specs.Readable.{eachBelow, readable}
 use Rattle.rules.specs.Panel.{none64, lapsed, met, eachPanel, ready}
 use Rattle.rules.specs.Handing.{raise, hand, logRecord, logRecords}
@@ -15,7 +15,8 @@ use Rattle.rules.specs.Settling.{sooner, chosen, choice, without, goOn, 
 use Rattle.rules.specs.Calls.{handAndSettle, sendDeadline, newMessage, sending, receiving, alive, clocking}
 use Rattle.rules.specs.Refusals.{eachReadable, broken, isWaiting, sendChecks, messageChecks, receiveChecks, clockChecks}
 use Rattle.rules.specs.Results.{refused, done, unless, defined}
-use Rattle.rules.specs.BenchCases.{finished, _and_, EachHolds, frame1, case1, frame2, case2, case3, case4, case5, case6, case7, case8, queue, case9, case10, case11, caseBeacon, caseOrder, caseUnreached, benchCases}
+use Rattle.rules.specs.Visiting.{entriesFrom, upToUnmet, traceChecks, trace}
+use Rattle.rules.specs.BenchCases.{finished, _and_, EachHolds, EachShown, frame1, case1, frame2, case2, case3, case4, case5, case6, case7, case8, queue, case9, case10, case11, caseBeacon, caseOrder, caseUnreached, caseTrace, benchCases}
 
 -- whoever unfolds these unfolds all definitions: of frames, of a panel's rules, of the calls, and the cases
 unfoldable pub framesOpened : Unit {0}
@@ -30,6 +31,10 @@ unfoldable pub callsOpened : Unit {0}
 unfolding framesOpened rulesOpened handAndSettle sendDeadline newMessage sending receiving alive clocking eachReadable broken isWaiting sendChecks messageChecks receiveChecks clockChecks refused done unless defined
 callsOpened = tt
 
+tracesOpened : Unit {0}
+unfolding callsOpened reading entriesFrom upToUnmet traceChecks trace frame1 queue caseTrace
+tracesOpened = tt
+
 casesOpened : Unit {0}
 unfolding callsOpened frame1 frame2 queue case1 case2 case3 case4 case5 case6 case7 case8 case9 case10 case11 caseBeacon caseOrder caseUnreached
 casesOpened = tt
@@ -38,3 +43,8 @@ casesOpened = tt
 pub bench-cases : EachHolds benchCases
 unfolding casesOpened
 bench-cases = refl and refl and refl and refl and refl and refl and refl and refl and refl and refl and refl and refl and refl and refl and finished
+
+-- Of every look of the traces' case, what the case shows is what documents 01 and 02 define.
+pub trace-case : EachShown caseTrace
+unfolding tracesOpened
+trace-case = refl

@@ -25,6 +25,7 @@ use Rattle.rules.specs.Settling.{settle}
 use Rattle.rules.specs.Calls.{newMessage}
 use Rattle.rules.specs.Refusals.{isRefusal, Listed, broken, freshNumber, freshRecord}
 use Rattle.rules.specs.Results.{Call, outputOf, bufferOf, checksOf, effectOf, frameOf, Result, refused, done, defined, Promised, send}
+use Rattle.rules.specs.Visiting.{traceChecks, trace}
 use Rattle.rules.specs.Lists.{_isIn_, Made, recordAt, logAt, Lawful, AllPromised, ran}
 use Rattle.rules.specs.Demand3.{Demand3}
 use Rattle.rules.proofs.Booleans.{or-either, cond-both}
@@ -33,6 +34,7 @@ use Rattle.rules.proofs.Handed.{effect-count}
 use Rattle.rules.proofs.Checks.{false-broken, send-passed, new-readable}
 use Rattle.rules.proofs.Cause.{named, known-deadline}
 use Rattle.rules.proofs.Results.{defined-both, defined-number, passed-valid, BytesOf, output-fits, buffer-fits, checks-listed, number-26}
+use Rattle.rules.proofs.Tracing.{trace-first, trace-checks-listed}
 use Rattle.rules.proofs.Steps.{ListSound}
 use Rattle.rules.proofs.Reached.{list-sound, logged-whole, whole-logged, reached-valid}
 
@@ -105,7 +107,8 @@ listed table each =
     ⊎-elim (λ e. inl (eqb-true (firstOf table) 0 e)) (λ e. inr e)
     (or-either (eqb (firstOf table) 0) (isRefusal (firstOf table)) (firstOf-each (λ n. eqb n 0 || isRefusal n) table refl each))
 
--- The answer is 0 or one of the numbers of document 01: that of a send, receive or clock call, of a frame check or reading, and of fresh.
+-- The answer is 0 or one of the numbers of document 01: that of a send, receive or clock call, of a frame check or reading, of fresh, and of a
+-- trace.
 pub number-listed : (p : Panel) (call : Call) → Listed (defined p call .number)
 number-listed p call = rw (defined-number p call) (listed (checksOf p call) (checks-listed p call))
 
@@ -116,6 +119,9 @@ reading-listed bytes = listed (checks width bytes) refl
 pub fresh-listed : (own : ℕ) → Listed (freshNumber own)
 unfolding eachNumber freshNumber
 fresh-listed own = listed ((ltb 63 own, 11) ∷ []) refl
+
+pub trace-listed : (p : Panel) (bytes : List ℕ) → Listed (trace p bytes .number)
+trace-listed p bytes = rw (trace-first p bytes) (listed (traceChecks p bytes) (trace-checks-listed p bytes))
 
 -- A refusal gives back the record as it was and alters no byte of a lent buffer; every count and length is 0.
 pub refusal-unchanged : (p : Panel) (call : Call) → defined p call .number ≢ 0

@@ -9,7 +9,7 @@ ghost use mathlib.Core.Path.{_≡_};
 ghost use mathlib.Core.Bool.{cond};
 ghost use Rattle.rules.specs.Visiting.{trace};
 ghost use Rattle.parts.specs.Record.{parts, recordOf};
-ghost use Rattle.trace.specs.Shown.{shownIn};
+ghost use Rattle.tracing.specs.Shown.{shownIn};
 
 // What a receive of a frame would do: the number that it would be refused with, or 0; whether the
 // message is ready; and how many of its entries were visited. Bytes that read as no message are not

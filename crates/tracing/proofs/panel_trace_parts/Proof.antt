@@ -1,4 +1,4 @@
--- `trace::panel_trace_parts` meets its contract: the number is that of the first check that applies, the rest is the answer of the test for
+-- `tracing::panel_trace_parts` meets its contract: the number is that of the first check that applies, the rest is the answer of the test for
 -- ready. Assumes nothing.
 use mathlib.Core.Path.{_≡_, sym, _∙_}
 use mathlib.Core.Bool.{false}
@@ -10,9 +10,9 @@ use Rattle.rules.proofs.Checks.{broken-false}
 use Rattle.slots.specs.Slots.{Reads}
 use Rattle.parts.specs.Record.{Parts, parts, recordOf}
 use Rattle.parts.proofs.Answering.{valid-kept}
-use Rattle.trace.proofs.Showing.{number-broken, number-unread, number-read, shown-unread, shown-read}
-use Rattle.trace.proofs.panel_trace_parts.Statement.{statement}
-use Rattle.trace.proofs.panel_trace_parts.Tie as tie
+use Rattle.tracing.proofs.Showing.{number-broken, number-unread, number-read, shown-unread, shown-read}
+use Rattle.tracing.proofs.panel_trace_parts.Statement.{statement}
+use Rattle.tracing.proofs.panel_trace_parts.Tie as tie
 
 -- looking back: the start of the call
 abbrev start : tie.After-frame-check → tie.Start

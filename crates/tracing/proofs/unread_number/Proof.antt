@@ -1,6 +1,6 @@
--- `trace::unread_number` meets its contract. Assumes nothing.
-use Rattle.trace.proofs.unread_number.Statement.{statement}
-use Rattle.trace.proofs.unread_number.Tie as tie
+-- `tracing::unread_number` meets its contract. Assumes nothing.
+use Rattle.tracing.proofs.unread_number.Statement.{statement}
+use Rattle.tracing.proofs.unread_number.Tie as tie
 
 returns : tie.Need-returns
 returns c = rw (c .if1 .taken)

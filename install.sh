@@ -78,10 +78,10 @@ archive() {
     mv "$built/sources" "$built/$1.made"
 }
 
-# One archive, with the objects of five.
+# One archive, with the objects of six.
 mkdir -p "$built"
 rm -f "$built"/*.o "$built/libpanel.a"
-for crate in exports beacon frame log_records bundle; do
+for crate in exports beacon trace frame log_records bundle; do
     archive $crate
     (cd "$built" && $ar x "../staticlib/lib$crate.a")
 done

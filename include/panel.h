@@ -4,9 +4,10 @@
  * Each panel of a farm keeps a record. panel_fresh makes it; panel_send writes the frame of an own
  * message, panel_beacon that of a status beacon, panel_receive takes a frame that came in,
  * panel_clock sets the time. Each of these four hands messages: it writes their log records, in the
- * order of cause. A message that comes before its cause waits in the record. panel_log_record reads
- * a log, panel_bundle_next a bundle of frames, and panel_frame_check looks at the bytes of a frame
- * alone.
+ * order of cause. A message that comes before its cause waits in the record. panel_trace changes
+ * nothing: it tells a technician what a receive of a frame would answer, and whether its message is
+ * ready. panel_log_record reads a log, panel_bundle_next a bundle of frames, and panel_frame_check
+ * looks at the bytes of a frame alone.
  *
  * Example, a whole program. It prints "3 7200 OK" and "21 bytes to pass on". Compile it with
  * cc program.c $(pkg-config --cflags --libs panel)   (-lpanel alone may find ncurses' libpanel).
@@ -68,6 +69,9 @@
 #error "libpanel.a is for x86-64 System V (64-bit Linux), and for no other target"
 #endif
 
+#ifndef __cplusplus
+#include <stdbool.h>
+#endif
 #include <stddef.h>
 #include <stdint.h>
 #include <string.h>
@@ -79,12 +83,12 @@ extern "C" {
 /* ---- Version ---- */
 
 /* Major 0, as the layout of the record still changes with coming versions: a record that another
-   version saved is not to be read. (0.3 has the layout of 0.2, and reads its records.) Frames,
-   bundles and logs stay as document 01 has them. */
+   version saved is not to be read. (0.3 and 0.4 have the layout of 0.2, and read its records.)
+   Frames, bundles and logs stay as document 01 has them. */
 #define PANEL_VERSION_MAJOR 0
-#define PANEL_VERSION_MINOR 3
+#define PANEL_VERSION_MINOR 4
 #define PANEL_VERSION_PATCH 0
-#define PANEL_VERSION "0.3.0"
+#define PANEL_VERSION "0.4.0"
 
 /* ---- Sizes ---- */
 
@@ -240,6 +244,29 @@ PANEL_ANSWER PANEL_NOT_NULL
 static inline PanelAnswer panel_clock(Panel *panel, uint32_t time, uint8_t *output,
                                       size_t output_length);
 
+/* ---- Trace ---- */
+
+typedef struct PanelTrace {
+    PanelNumber number; /* 0, or that of the refusal that a receive would answer */
+    bool ready;         /* whether the message is ready: each of its entries is met */
+    size_t visited;     /* how many entries the test for ready visited, 0 to 64 */
+} PanelTrace;
+
+/*
+ * Tells what would become of a frame, whole or damaged, of any length. It changes nothing.
+ * The number is the first of 26, 1 to 8 as by panel_frame_check, 20, 21, 22, 23 that applies: the
+ * number that panel_receive would answer with this frame and an output of PANEL_OUTPUT_MIN bytes.
+ * An entry is met if the mark of its panel is at least the entry, or if the entry has lapsed. The
+ * test for ready goes from one set bit of the frame's mask to the next, lowest panel first, up to
+ * the first entry that is not met, that one included, or through all. So where the message is not
+ * ready, the entry at which it stopped is the visited-th set bit of the frame's mask, counted from
+ * the lowest: of that panel the record lacks this message, and has had no later one.
+ * `ready` and `visited` are answered whatever the number is, with 26 too, by the marks and the time
+ * of the record. For bytes that panel_frame_check turns down they are false and 0.
+ */
+PANEL_ANSWER PANEL_NOT_NULL
+static inline PanelTrace panel_trace(const Panel *panel, const uint8_t *frame, size_t frame_length);
+
 /* ---- Frames, logs and bundles ---- */
 
 /*
@@ -303,6 +330,12 @@ typedef struct PanelPartsAnswer {
     uint8_t number;
 } PanelPartsAnswer;
 
+typedef struct PanelTraceParts {
+    size_t visited;
+    bool ready;
+    uint8_t number;
+} PanelTraceParts;
+
 typedef struct PanelLogParts {
     uint32_t deadline;
     uint8_t source;
@@ -345,6 +378,11 @@ PanelPartsAnswer panel_clock_parts(uint8_t own, uint32_t *time, uint32_t *high, 
                                    uint32_t reading, uint8_t *output, size_t output_length);
 
 PANEL_NOT_NULL
+PanelTraceParts panel_trace_parts(uint8_t own, uint32_t time, uint32_t high, size_t count,
+                                  const uint32_t *marks, const uint32_t *barrier,
+                                  const uint8_t *slots, const uint8_t *frame, size_t frame_length);
+
+PANEL_NOT_NULL
 uint8_t frame_check(const uint8_t *frame, size_t length);
 
 PANEL_NOT_NULL
@@ -380,6 +418,11 @@ PANEL_FIELD(PanelPartsAnswer, count, 0, 8);
 PANEL_FIELD(PanelPartsAnswer, length, 8, 8);
 PANEL_FIELD(PanelPartsAnswer, number, 16, 1);
 PANEL_ASSERT(sizeof(PanelPartsAnswer) == 24, "size of PanelPartsAnswer");
+
+PANEL_FIELD(PanelTraceParts, visited, 0, 8);
+PANEL_FIELD(PanelTraceParts, ready, 8, 1);
+PANEL_FIELD(PanelTraceParts, number, 9, 1);
+PANEL_ASSERT(sizeof(PanelTraceParts) == 16, "size of PanelTraceParts");
 
 PANEL_FIELD(PanelLogParts, deadline, 0, 4);
 PANEL_FIELD(PanelLogParts, source, 4, 1);
@@ -483,6 +526,15 @@ static inline PanelAnswer panel_clock(Panel *panel, uint32_t time, uint8_t *outp
     return panel_answer_of(panel_clock_parts(panel->own, &panel->time, &panel->high, &panel->count,
                                              panel->marks, panel->barrier, panel->slots, time,
                                              output, output_length));
+}
+
+static inline PanelTrace panel_trace(const Panel *panel, const uint8_t *frame, size_t frame_length)
+{
+    PanelTraceParts parts = panel_trace_parts(panel->own, panel->time, panel->high, panel->count,
+                                              panel->marks, panel->barrier, panel->slots, frame,
+                                              frame_length);
+    PanelTrace trace = {(PanelNumber)parts.number, parts.ready, parts.visited};
+    return trace;
 }
 
 static inline PanelNumber panel_frame_check(const uint8_t *frame, size_t frame_length)

@@ -55,6 +55,13 @@ mod archive {
     }
 
     #[repr(C)]
+    pub struct Trace {
+        pub visited: usize,
+        pub ready: bool,
+        pub number: u8,
+    }
+
+    #[repr(C)]
     pub struct LogFields {
         pub deadline: u32,
         pub source: u8,
@@ -78,6 +85,7 @@ mod archive {
     }
 
     layout!(Answer, 24, count 0, length 8, number 16);
+    layout!(Trace, 16, visited 0, ready 8, number 9);
     layout!(LogFields, 8, deadline 0, source 4, length 5);
     layout!(BundleStep, 32, start 0, length 8, next 16, kind 24);
 
@@ -149,6 +157,17 @@ mod archive {
             output: *mut u8,
             output_length: usize,
         ) -> Answer;
+        pub fn panel_trace_parts(
+            own: u8,
+            time: u32,
+            high: u32,
+            count: usize,
+            marks: &[u32; PANELS],
+            barrier: &[u32; PANELS],
+            slots: &[u8; SLOTS],
+            frame: *const u8,
+            frame_length: usize,
+        ) -> Trace;
         pub fn frame_check(frame: *const u8, length: usize) -> u8;
         pub fn panel_log_fields(log: *const u8, length: usize, index: usize) -> LogFields;
         pub fn panel_bundle_step(bundle: *const u8, length: usize, place: usize) -> BundleStep;
@@ -313,6 +332,18 @@ impl Log {
     pub fn is_empty(&self) -> bool {
         self.count == 0
     }
+}
+
+/// What a panel would do with a frame.
+#[derive(Clone, Copy, Debug, PartialEq, Eq)]
+pub struct Trace {
+    /// That of `Panel::receive` with this frame, or none.
+    pub refusal: Option<Refusal>,
+    /// Whether the message is ready: each of its entries is met.
+    pub ready: bool,
+    /// How many entries the test for ready visited, at most 64: lowest panel first, up to the first
+    /// that is not met, that one included, or all.
+    pub visited: usize,
 }
 
 /// One log record.
@@ -568,6 +599,33 @@ impl Panel {
         accepted(answer.number)?;
         log.count = answer.count;
         Ok(log)
+    }
+
+    /// Tells a technician what would become of a frame, whole or damaged, and changes nothing.
+    /// Whatever the refusal is, the message is ready or not by marks and time; bytes that
+    /// `frame_check` turns down are not ready, with no entry visited. Where a message is not ready,
+    /// the entry at which the test stopped is the `visited`-th set bit of the frame's mask, counted
+    /// from the lowest.
+    pub fn trace(&self, frame: &[u8]) -> Trace {
+        // SAFETY: the frame is a slice, passed with its length; nothing that is lent is written.
+        let trace = unsafe {
+            archive::panel_trace_parts(
+                self.own,
+                self.time,
+                self.high,
+                self.count,
+                &self.marks,
+                &self.barrier,
+                &self.slots,
+                frame.as_ptr(),
+                frame.len(),
+            )
+        };
+        Trace {
+            refusal: accepted(trace.number).err(),
+            ready: trace.ready,
+            visited: trace.visited,
+        }
     }
 
     /// The own number.

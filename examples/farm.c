@@ -1,6 +1,7 @@
 /*
- * Three panels of a farm in one process: what they send, hand, keep waiting, drop and refuse, and
- * the log of each in the end. It prints what stands in farm.txt; examples/run.sh builds it.
+ * Three panels of a farm in one process: what they send, hand, keep waiting, drop and refuse, what
+ * a trace tells of it, and the log of each in the end. It prints what stands in farm.txt;
+ * examples/run.sh builds it.
  */
 #include <panel.h>
 
@@ -134,6 +135,30 @@ static void receive(Member *member, const Parcel *parcel)
     receive_frame(member, parcel->bytes, parcel->length);
 }
 
+/* The panel of the last entry visited: the visited-th set bit of the mask, in bytes 10 to 17. */
+static unsigned last_visited(const Parcel *parcel, size_t visited)
+{
+    unsigned panel = 0;
+
+    for (; panel < PANEL_PANELS; panel++) {
+        if ((parcel->bytes[17 - panel / 8] >> panel % 8 & 1) != 0 && --visited == 0)
+            break;
+    }
+    return panel;
+}
+
+/* A technician asks what a panel would do with a frame, and which message it lacks. */
+static void trace(const Member *member, const Parcel *parcel)
+{
+    PanelTrace answer = panel_trace(&member->record, parcel->bytes, parcel->length);
+    printf("a trace of \"%s\" at panel %u: number %u, %zu entries visited, ", parcel->text,
+           member->record.own, answer.number, answer.visited);
+    if (answer.ready)
+        printf("ready\n");
+    else
+        printf("that of panel %u not met\n", last_visited(parcel, answer.visited));
+}
+
 /* The radio looks at a frame that was damaged on its way, here in the first byte of its mark. */
 static void check_damaged(Parcel parcel)
 {
@@ -183,8 +208,8 @@ static void print_log(const Member *member)
     }
 }
 
-/* A tractor cab brings two messages of a panel to another, the later one first. */
-static void by_cab(Member *from, Member *to)
+/* A tractor cab brings two messages of a panel to another, the later one first, and drives on. */
+static Cab by_cab(Member *from, Member *to)
 {
     Cab cab = {.length = 0};
 
@@ -193,6 +218,7 @@ static void by_cab(Member *from, Member *to)
     take_along(&cab, &emptied);
     take_along(&cab, &full);
     receive_bundle(to, &cab);
+    return cab;
 }
 
 /* Two messages lapse: one while it waits for the other, which then comes too late. */
@@ -209,13 +235,25 @@ static void too_late(Member *from, Member *to)
  * A panel that lacks a beacon holds back the note that was sent after it until the beacon lapses.
  * That is soon: sent with lifetime 0, it would hold the note back to the last second of its life.
  */
-static void beacon_lapses(Member *from, Member *to)
+static Parcel beacon_lapses(Member *from, Member *to)
 {
     Parcel beacon = send_beacon(from, "dryer 9 runs");
     Parcel note = send_text(from, "hold batch 7");
     receive(to, &note);
     set_clock(to, beacon.deadline + 1);
     receive(to, &beacon);
+    return beacon;
+}
+
+/*
+ * A panel would keep a beacon waiting, as it lacks one of the two messages that come before it in
+ * cause. The cab brings that one, and the beacon would be handed.
+ */
+static void look_for_cause(Member *member, const Parcel *beacon, const Cab *cab)
+{
+    trace(member, beacon);
+    receive_bundle(member, cab);
+    trace(member, beacon);
 }
 
 int main(void)
@@ -242,11 +280,15 @@ int main(void)
     receive(&nine, &hold);
     receive(&nine, &hold);
 
-    by_cab(&five, &nine);
+    Cab cab = by_cab(&five, &nine);
     too_late(&three, &nine);
 
     /* the deadlines in the log of panel 9 have passed, so its beacon lapses as soon as one can */
-    beacon_lapses(&nine, &five);
+    Parcel beacon = beacon_lapses(&nine, &five);
+
+    /* panel 3 has not had it; at panel 5 it has lapsed, and so have the entries that it carries */
+    look_for_cause(&three, &beacon, &cab);
+    trace(&five, &beacon);
 
     print_log(&three);
     print_log(&five);

@@ -1,7 +1,7 @@
 //! The example of examples/farm.c in Rust: the same story, and the same text.
 #![forbid(unsafe_code)]
 
-use panel::{frame_check, log_records, Bundle, Frame, Log, Panel, Refusal};
+use panel::{frame_check, log_records, Bundle, Frame, Log, Panel, Refusal, PANELS};
 use std::process::ExitCode;
 
 /// A panel, and its log so far.
@@ -89,6 +89,24 @@ impl Member {
         self.receive_frame(&parcel.frame);
     }
 
+    /// A technician asks what the panel would do with a frame, and which message it lacks.
+    fn trace(&self, parcel: &Parcel) {
+        let answer = self.panel.trace(&parcel.frame);
+        print!(
+            "a trace of \"{}\" at panel {}: number {}, {} entries visited, ",
+            parcel.text,
+            self.panel.own(),
+            answer.refusal.map_or(0, Refusal::number),
+            answer.visited
+        );
+        if answer.ready {
+            println!("ready");
+        } else {
+            let panel = last_visited(&parcel.frame, answer.visited);
+            println!("that of panel {panel} not met");
+        }
+    }
+
     /// A cab meets the panel and passes its bundle.
     fn receive_bundle(&mut self, bundle: &[u8]) {
         let own = self.panel.own();
@@ -117,6 +135,13 @@ impl Member {
     }
 }
 
+/// The panel of the last entry visited: the visited-th set bit of the mask, in bytes 10 to 17.
+fn last_visited(frame: &[u8], visited: usize) -> usize {
+    let set = |panel: &usize| frame[17 - panel / 8] >> (panel % 8) & 1 == 1;
+    let entries = (0..PANELS).filter(set);
+    entries.take(visited).last().unwrap_or(PANELS)
+}
+
 /// The radio looks at a frame that was damaged on its way, here in the first byte of its mark.
 fn check_damaged(parcel: &Parcel) {
     let mut bytes = parcel.frame.to_vec();
@@ -133,15 +158,16 @@ fn take_along(bundle: &mut Vec<u8>, parcel: &Parcel) {
     bundle.extend_from_slice(&parcel.frame);
 }
 
-/// A tractor cab brings two messages of a panel to another, the later one first.
-fn by_cab(from: &mut Member, to: &mut Member) -> Result<(), Refusal> {
+/// A tractor cab brings two messages of a panel to another, the later one first, and drives on with
+/// its bundle.
+fn by_cab(from: &mut Member, to: &mut Member) -> Result<Vec<u8>, Refusal> {
     let full = from.send("bin 4 full")?;
     let emptied = from.send("bin 4 emptied")?;
     let mut bundle = Vec::new();
     take_along(&mut bundle, &emptied);
     take_along(&mut bundle, &full);
     to.receive_bundle(&bundle);
-    Ok(())
+    Ok(bundle)
 }
 
 /// Two messages lapse: one while it waits for the other, which then comes too late.
@@ -156,13 +182,21 @@ fn too_late(from: &mut Member, to: &mut Member) -> Result<(), Refusal> {
 
 /// A panel that lacks a beacon holds back the note that was sent after it until the beacon lapses.
 /// That is soon: sent with lifetime 0, it would hold the note back to the last second of its life.
-fn beacon_lapses(from: &mut Member, to: &mut Member) -> Result<(), Refusal> {
+fn beacon_lapses(from: &mut Member, to: &mut Member) -> Result<Parcel, Refusal> {
     let beacon = from.beacon("dryer 9 runs")?;
     let note = from.send("hold batch 7")?;
     to.receive(&note);
     to.set_clock(beacon.deadline + 1)?;
     to.receive(&beacon);
-    Ok(())
+    Ok(beacon)
+}
+
+/// A panel would keep a beacon waiting, as it lacks one of the two messages that come before it in
+/// cause. The cab brings that one, and the beacon would be handed.
+fn look_for_cause(member: &mut Member, beacon: &Parcel, bundle: &[u8]) {
+    member.trace(beacon);
+    member.receive_bundle(bundle);
+    member.trace(beacon);
 }
 
 fn story() -> Result<(), Refusal> {
@@ -186,11 +220,15 @@ fn story() -> Result<(), Refusal> {
     nine.receive(&hold);
     nine.receive(&hold);
 
-    by_cab(&mut five, &mut nine)?;
+    let bundle = by_cab(&mut five, &mut nine)?;
     too_late(&mut three, &mut nine)?;
 
     // the deadlines in the log of panel 9 have passed, so its beacon lapses as soon as one can
-    beacon_lapses(&mut nine, &mut five)?;
+    let beacon = beacon_lapses(&mut nine, &mut five)?;
+
+    // panel 3 has not had it; at panel 5 it has lapsed, and so have the entries that it carries
+    look_for_cause(&mut three, &beacon, &bundle);
+    five.trace(&beacon);
 
     three.print_log();
     five.print_log();

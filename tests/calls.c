@@ -1,7 +1,8 @@
 /*
  * The calls as a C program sees them: bench cases 1, 2 and 4 to 11 of document 01, the first two
- * with the deadlines of document 02, W-203; beacons; every refusal and the order of refusals, and
- * what a call leaves as it was. Frames and log records are written in hexadecimal, by hand.
+ * with the deadlines of document 02, W-203; beacons; every refusal and the order of refusals;
+ * traces, of every frame that is received and of some more; and what a call leaves as it was.
+ * Frames and log records are written in hexadecimal, by hand.
  */
 #include "checks.h"
 #include "panel.h"
@@ -11,7 +12,7 @@
 
 /* ---- Checks ---- */
 
-typedef enum { FRESH, SEND, BEACON, RECEIVE, CLOCK, CALLS } Call;
+typedef enum { FRESH, SEND, BEACON, RECEIVE, CLOCK, TRACE, CALLS } Call;
 
 static bool seen[CALLS][256]; /* which numbers each call answered */
 
@@ -200,13 +201,37 @@ static void check_record(const Step *s, const Panel *given)
     same_record(s->line, &lent.panel, &expected);
 }
 
-/* Makes the call of a step on a copy of a record, and checks all that it gives. */
+/* Traces a frame on a copy of a record. Every byte of both is as it was, and the number is that of
+   a receive with an output that is long enough. */
+static PanelTrace trace(int line, const Panel *given, const uint8_t *expected, size_t length)
+{
+    static uint8_t received_output[PANEL_OUTPUT_MIN];
+    static Panel received;
+    uint8_t *bytes = copy_of(expected, length);
+
+    lend(given);
+    PanelTrace answer = panel_trace(&lent.panel, bytes, length);
+    check_margins(line);
+    same_bytes(line, "record that was traced on", &lent.panel, given, sizeof lent.panel, 0);
+    same_bytes(line, "frame that was traced", bytes, expected, length, 0);
+    memcpy(&received, given, sizeof received);
+    same_answer(line, TRACE, answer.number,
+                panel_receive(&received, bytes, length, received_output,
+                              sizeof received_output).number);
+    free_copy(bytes);
+    return answer;
+}
+
+/* Makes the call of a step on a copy of a record, and checks all that it gives. A frame that is
+   received is traced first. */
 static void call(const Step *s, const Panel *given)
 {
     uint8_t expected[BYTES_MAX];
     size_t length = s->bytes != NULL ? put_bytes(expected, s->bytes) : 0;
     uint8_t *bytes = copy_of(expected, length);
 
+    if (s->call == RECEIVE)
+        trace(s->line, given, expected, length);
     lend(given);
     PanelAnswer answer = make(s, bytes, length);
     same_answer(s->line, s->call, answer.number, s->number);
@@ -850,6 +875,123 @@ static void odd_records(void)
     step(&twice);
 }
 
+/* ---- Traces ---- */
+
+/* A trace of a frame, written in hexadecimal, answers this. */
+static void check_trace(int line, const Panel *given, const char *frame, PanelTrace expected)
+{
+    uint8_t bytes[BYTES_MAX];
+    size_t length = put_bytes(bytes, frame);
+
+    PanelTrace answer = trace(line, given, bytes, length);
+    same_number(line, "number", answer.number, expected.number);
+    same_number(line, "ready", answer.ready, expected.ready);
+    same_number(line, "number of entries visited", answer.visited, expected.visited);
+}
+
+/* Entries of 100, 101 and 102 of panels 3, 7 and 9; of 100 and 101 of panels 0 and 63. */
+#define AFTER_3_7_9 "445259 0001 14 000003e8 0000000000000288 00000064 00000065 00000066 00"
+#define AFTER_0_63 "445259 0001 14 000003e8 8000000000000001 00000064 00000065 00"
+
+/* What is traced at panel 2, and what the trace is to answer. */
+static const struct {
+    int line;
+    const char *frame;
+    Record record;
+    PanelTrace answer;
+} traces[] = {
+    {__LINE__, FROM_1_DUE_100, {.time = 0}, {0, true, 0}},
+    /* one entry: the mark below it, at it and above it */
+    {__LINE__, FROM_5_DUE_200_AFTER_1, {.time = 0}, {0, false, 1}},
+    {__LINE__, FROM_5_DUE_200_AFTER_1, {.high = 99, .marks = {{1, 99}}}, {0, false, 1}},
+    {__LINE__, FROM_5_DUE_200_AFTER_1, {.high = 100, .marks = {{1, 100}}}, {0, true, 1}},
+    {__LINE__, FROM_5_DUE_200_AFTER_1, {.high = 101, .marks = {{1, 101}}}, {0, true, 1}},
+    /* the first of three that is not met, whatever is met behind it */
+    {__LINE__, AFTER_3_7_9, {.time = 0}, {0, false, 1}},
+    {__LINE__, AFTER_3_7_9, {.high = 102, .marks = {{7, 102}, {9, 102}}}, {0, false, 1}},
+    {__LINE__, AFTER_3_7_9, {.high = 102, .marks = {{3, 100}}}, {0, false, 2}},
+    {__LINE__, AFTER_3_7_9, {.high = 102, .marks = {{3, 100}, {9, 102}}}, {0, false, 2}},
+    {__LINE__, AFTER_3_7_9, {.high = 102, .marks = {{3, 100}, {7, 101}}}, {0, false, 3}},
+    {__LINE__, AFTER_3_7_9, {.high = 102, .marks = {{3, 100}, {7, 101}, {9, 102}}}, {0, true, 3}},
+    /* neither the barrier nor the marks of other panels meet them */
+    {__LINE__, AFTER_3_7_9, {.high = 102, .barrier = {{3, 102}, {7, 102}}}, {0, false, 1}},
+    {__LINE__, AFTER_3_7_9, {.high = 102, .marks = {{2, 102}, {4, 102}}}, {0, false, 1}},
+    /* lapsed entries; one that is equal to the time is alive */
+    {__LINE__, AFTER_3_7_9, {.time = 100}, {0, false, 1}},
+    {__LINE__, AFTER_3_7_9, {.time = 101}, {0, false, 2}},
+    {__LINE__, AFTER_3_7_9, {.time = 102}, {0, false, 3}},
+    {__LINE__, AFTER_3_7_9, {.time = 103}, {0, true, 3}},
+    {__LINE__, AFTER_3_7_9, {.time = 101, .high = 101, .marks = {{7, 101}}}, {0, false, 3}},
+    {__LINE__, AFTER_3_7_9, {.time = 102, .high = 102, .marks = {{9, 102}}}, {0, true, 3}},
+    /* the lowest panel and the highest */
+    {__LINE__, AFTER_0_63, {.time = 0}, {0, false, 1}},
+    {__LINE__, AFTER_0_63, {.high = 101, .marks = {{63, 101}}}, {0, false, 1}},
+    {__LINE__, AFTER_0_63, {.high = 101, .marks = {{0, 100}}}, {0, false, 2}},
+    {__LINE__, AFTER_0_63, {.high = 101, .marks = {{0, 100}, {63, 101}}}, {0, true, 2}},
+    /* whatever the number is: own source, lapsed, had by the mark, waiting already, broken */
+    {__LINE__, FROM_2_DUE_300_AFTER_1, {.time = 0}, {20, false, 1}},
+    {__LINE__, FROM_2_DUE_300_AFTER_1, {.time = 101}, {20, true, 1}},
+    {__LINE__, AFTER_3_7_9, {.time = 1001}, {21, true, 3}},
+    {__LINE__, AFTER_3_7_9, {.high = 1000, .marks = {{3, 100}, {20, 1000}}}, {22, false, 2}},
+    {__LINE__, AFTER_3_7_9, {.time = 103, .high = 1000, .marks = {{20, 1000}}}, {22, true, 3}},
+    {__LINE__, AFTER_3_7_9, {.waiting = {AFTER_3_7_9}}, {22, false, 1}},
+    {__LINE__, AFTER_3_7_9, {.high = 99, .marks = {{3, 100}}}, {26, false, 2}},
+    {__LINE__, AFTER_3_7_9, {.time = 103, .high = 0, .barrier = {{3, 100}}}, {26, true, 3}},
+    {__LINE__, FROM_1_DUE_100, {.waiting = {"00"}}, {26, true, 0}},
+};
+
+/* Each hand-written trace; with 33 waiting the same is visited, and the number is 26. */
+static void hand_written_traces(void)
+{
+    part = "traces";
+    for (size_t i = 0; i < sizeof traces / sizeof traces[0]; i++) {
+        PanelTrace expected = traces[i].answer;
+        Panel p = panel_of(2, &traces[i].record);
+        check_trace(traces[i].line, &p, traces[i].frame, expected);
+        p.count = PANEL_WAITING_MAX + 1;
+        expected.number = PANEL_REFUSED_RECORD_BROKEN;
+        check_trace(traces[i].line, &p, traces[i].frame, expected);
+    }
+}
+
+/* With a full list: 23 for one that is not ready, whose trace is answered all the same. */
+static void full_traces(void)
+{
+    start("traces with a full list");
+    fill();
+    check_trace(__LINE__, &panels[7], AFTER_3_7_9, (PanelTrace){23, false, 1});
+    check_trace(__LINE__, &panels[7], FROM_1_DUE_100, (PanelTrace){0, true, 0});
+    check_trace(__LINE__, &panels[7], full.bytes, (PanelTrace){22, false, 1});
+}
+
+/* A frame with an entry of 100 of each panel of a mask. */
+static void put_entries(char *text, size_t size, uint64_t mask)
+{
+    size_t end = (size_t)snprintf(text, size, "445259 0001 14 000003e8 %016llx",
+                                  (unsigned long long)mask);
+    for (; mask != 0; mask &= mask - 1)
+        end += (size_t)snprintf(text + end, size - end, " 00000064");
+    snprintf(text + end, size - end, " 00");
+}
+
+/* The entry of each panel alone, and with those of all others, the lower ones of which are met. */
+static void each_panel_traced(void)
+{
+    static char one[64], all[2 * PANEL_FRAME_MAX + PANEL_PANELS + 16];
+    Panel p = panel_of(2, &(Record){.high = 100});
+
+    part = "traces of each panel's entry";
+    put_entries(all, sizeof all, UINT64_MAX);
+    for (unsigned s = 0; s < PANEL_PANELS; s++) {
+        put_entries(one, sizeof one, (uint64_t)1 << s);
+        check_trace(__LINE__, &p, one, (PanelTrace){0, false, 1});
+        check_trace(__LINE__, &p, all, (PanelTrace){0, false, s + 1});
+        p.marks[s] = 100;
+        check_trace(__LINE__, &p, one, (PanelTrace){0, true, 1});
+    }
+    check_trace(__LINE__, &p, all, (PanelTrace){0, true, PANEL_PANELS});
+}
+
 /* ---- Frames ---- */
 
 static const struct {
@@ -903,12 +1045,14 @@ static const struct {
     {__LINE__, "445259 0001 03 00000009 0000000000000000 00 00", 8},
 };
 
-/* The frame check alone, and a receive of what it turns down. */
+/* The frame check alone, and a receive and traces of what it turns down. */
 static void damaged_frames(void)
 {
     uint8_t bytes[BYTES_MAX];
 
     start("frames");
+    Panel broken = panels[9];
+    broken.own = PANEL_PANELS;
     for (size_t i = 0; i < sizeof frames / sizeof frames[0]; i++) {
         size_t length = put_bytes(bytes, frames[i].bytes);
         uint8_t *copy = copy_of(bytes, length);
@@ -917,8 +1061,11 @@ static void damaged_frames(void)
         free_copy(copy);
         Step s = {frames[i].line, RECEIVE, .at = 9, .bytes = frames[i].bytes,
                   .number = frames[i].number};
-        if (s.number != PANEL_ACCEPTED)
-            step(&s);
+        if (s.number == PANEL_ACCEPTED)
+            continue;
+        step(&s);
+        check_trace(s.line, &panels[9], s.bytes, (PanelTrace){s.number, false, 0});
+        check_trace(s.line, &broken, s.bytes, (PanelTrace){26, false, 0});
     }
 }
 
@@ -1001,6 +1148,7 @@ static const struct {
     [BEACON] = {"beacon", {9, 10, 24, 26}},
     [RECEIVE] = {"receive", {1, 2, 3, 4, 5, 6, 7, 8, 10, 20, 21, 22, 23, 26}},
     [CLOCK] = {"clock", {10, 25, 26}},
+    [TRACE] = {"trace", {1, 2, 3, 4, 5, 6, 7, 8, 20, 21, 22, 23, 26}},
 };
 
 /* Whether a call can answer a number: one of its refusals, or the 0 behind them. */
@@ -1050,6 +1198,9 @@ void test_calls(void)
     broken_records();
     whole_record();
     odd_records();
+    hand_written_traces();
+    full_traces();
+    each_panel_traced();
     damaged_frames();
     longest_frame();
     all_seen();

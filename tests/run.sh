@@ -88,6 +88,7 @@ test_c() {
     $1 -O2 -std=c11 $warnings -Wswitch-enum $flags -c -o $built/warnings.o tests/warnings.c
     must_warn "$1" CASE_LEFT_OUT PANEL_REFUSED_LIST_FULL
     must_warn "$1" ANSWER_NOT_LOOKED_AT unused
+    must_warn "$1" TRACE_NOT_LOOKED_AT unused
     must_warn "$1" NULL_POINTER nonnull
 }
 

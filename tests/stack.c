@@ -1,6 +1,7 @@
 /*
- * How much stack the calls take: each works on a full list and hands it whole, on a stack of its
- * own that was painted before. A program of its own, as valgrind can't follow the change of stack.
+ * How much stack the calls take: each works on a full list and hands it whole, or traces a frame
+ * there, on a stack of its own that was painted before. A program of its own, as valgrind can't
+ * follow the change of stack.
  */
 #define _XOPEN_SOURCE 600 /* for ucontext.h */
 #include "checks.h"
@@ -14,6 +15,7 @@ static uint8_t output[PANEL_OUTPUT_MIN], buffer[PANEL_FRAME_MAX];
 static ucontext_t caller, callee;
 static Panel panel;
 static PanelAnswer answer;
+static PanelTrace traced;
 
 /* The deadline of the own message, sent at time 0: that of a beacon. */
 enum { OWN_DEADLINE = PANEL_LIFETIME_BEACON };
@@ -58,6 +60,15 @@ static void make_clock(void)
     answer = panel_clock(&panel, 101, output, sizeof output);
 }
 
+/* A message that waits for two others. */
+static void make_trace(void)
+{
+    static const char text[] = "445259 0001 03 00000bb8 0000000000000003 00000001 00000064 00";
+    uint8_t frame[PANEL_FRAME_MAX];
+    size_t length = put_bytes(frame, text);
+    traced = panel_trace(&panel, frame, length);
+}
+
 /* Runs a function on the painted stack. */
 static void run(void (*function)(void))
 {
@@ -81,14 +92,29 @@ static size_t taken(void)
     return sizeof stack - left;
 }
 
-/* What a call takes, with the function that makes it. */
+/* What a call took, with the function that made it. */
+static void check_taken(int line)
+{
+    if (fails(taken() <= PANEL_STACK_BYTES, __FILE__, line, "stack"))
+        printf(" is %zu bytes, expected at most %d\n", taken(), PANEL_STACK_BYTES);
+}
+
+/* A call that hands so many messages. */
 static void check_stack(int line, void (*make)(void), size_t count)
 {
     run(make);
     same_number(line, "number", answer.number, PANEL_ACCEPTED);
     same_number(line, "count of log records", answer.count, count);
-    if (fails(taken() <= PANEL_STACK_BYTES, __FILE__, line, "stack"))
-        printf(" is %zu bytes, expected at most %d\n", taken(), PANEL_STACK_BYTES);
+    check_taken(line);
+}
+
+/* A trace of a message for which the list has no place. */
+static void check_trace(int line)
+{
+    run(make_trace);
+    same_number(line, "number", traced.number, PANEL_REFUSED_LIST_FULL);
+    same_number(line, "number of entries visited", traced.visited, 1);
+    check_taken(line);
 }
 
 int main(void)
@@ -102,5 +128,7 @@ int main(void)
     check_stack(__LINE__, make_receive, PANEL_WAITING_MAX + 1);
     fill(1, 100);
     check_stack(__LINE__, make_clock, PANEL_WAITING_MAX);
+    fill(1, 100);
+    check_trace(__LINE__);
     return checked();
 }

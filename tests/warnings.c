@@ -6,6 +6,7 @@
 
 int must_pass_on(PanelNumber number);
 void hand_on(Panel *panel, uint8_t *output);
+void look_at(const Panel *panel, const uint8_t *frame);
 PanelNumber check_none(void);
 
 int must_pass_on(PanelNumber number)
@@ -44,6 +45,15 @@ void hand_on(Panel *panel, uint8_t *output)
     panel_clock(panel, 1, output, PANEL_OUTPUT_MIN);
 #else
     (void)panel, (void)output;
+#endif
+}
+
+void look_at(const Panel *panel, const uint8_t *frame)
+{
+#ifdef TRACE_NOT_LOOKED_AT
+    panel_trace(panel, frame, PANEL_FRAME_MIN);
+#else
+    (void)panel, (void)frame;
 #endif
 }
 

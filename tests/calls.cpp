@@ -62,6 +62,28 @@ static void receive(const uint8_t *frame, size_t length)
     CHECK(panel_log_record(output, received.count * PANEL_LOG_RECORD, 1).deadline == 0);
 }
 
+// A message of panel 1 that waits for one of panel 0 and one of panel 2, at a fresh panel 6, which
+// takes the first of them in between.
+static void trace()
+{
+    static Panel six;
+    const uint8_t first[] = {0x44, 0x52, 0x59, 0, 1, 0, 0, 0, 0, 7, 0, 0, 0, 0, 0, 0, 0, 0, 0};
+    const uint8_t later[] = {0x44, 0x52, 0x59, 0, 1, 1, 0, 0, 0, 9, 0, 0, 0, 0,
+                             0,    0,    0,    5, 0, 0, 0, 7, 0, 0, 0, 8, 0};
+
+    CHECK(panel_fresh(&six, 6) == PANEL_ACCEPTED);
+    PanelTrace before = panel_trace(&six, later, sizeof later);
+    CHECK(before.number == PANEL_ACCEPTED && !before.ready && before.visited == 1);
+    PanelAnswer received = panel_receive(&six, first, sizeof first, output, sizeof output);
+    CHECK(received.number == PANEL_ACCEPTED && received.count == 1);
+    PanelTrace after = panel_trace(&six, later, sizeof later);
+    CHECK(after.number == PANEL_ACCEPTED && !after.ready && after.visited == 2);
+    PanelTrace again = panel_trace(&six, first, sizeof first);
+    CHECK(again.number == PANEL_REFUSED_HAD_ALREADY && again.ready && again.visited == 0);
+    PanelTrace cut = panel_trace(&six, later, sizeof later - 1);
+    CHECK(cut.number == PANEL_REFUSED_FRAME_SHORT && !cut.ready && cut.visited == 0);
+}
+
 int main()
 {
     uint8_t bytes[2 + PANEL_FRAME_MAX] = {0, 21}, sent[PANEL_FRAME_MAX];
@@ -75,6 +97,7 @@ int main()
     CHECK(panel_bundle_next(&bundle, &frame, &length) == PANEL_BUNDLE_FRAME && length == 21);
     receive(frame, length);
     beacon();
+    trace();
     CHECK(panel_bundle_next(&bundle, &frame, &length) == PANEL_BUNDLE_END && length == 0);
     CHECK(std::strcmp(panel_number_text(PANEL_REFUSED_LAPSED), "the message has lapsed") == 0);
     return EXIT_SUCCESS;

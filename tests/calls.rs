@@ -3,7 +3,7 @@
 #![forbid(unsafe_code)]
 
 use panel::{
-    frame_check, log_record, log_records, Bundle, BundleBroken, LogRecord, Panel, Refusal,
+    frame_check, log_record, log_records, Bundle, BundleBroken, LogRecord, Panel, Refusal, Trace,
     LIFETIME_BEACON, LIFETIME_DEFAULT, LOG_RECORD,
 };
 
@@ -121,6 +121,36 @@ fn full_list() -> Result<(), Refusal> {
     Ok(())
 }
 
+/// A message after those of panels 3, 7 and 9, as they come in one after another; refusals; a frame
+/// that is cut short. A trace changes nothing: what is traced is received afterwards.
+fn traces() -> Result<(), Refusal> {
+    let mut two = Panel::fresh(2)?;
+    let later = frame(20, 1000, 1 << 3 | 1 << 7 | 1 << 9, &[100, 101, 102]);
+    let traced = |refusal, ready, visited| Trace {
+        refusal,
+        ready,
+        visited,
+    };
+    assert_eq!(two.trace(&later), traced(None, false, 1));
+    two.receive(&frame(3, 100, 0, &[]))?;
+    assert_eq!(two.trace(&later), traced(None, false, 2));
+    two.receive(&frame(7, 101, 0, &[]))?;
+    assert_eq!(two.trace(&later), traced(None, false, 3));
+    two.clock(103)?; // the third has lapsed
+    assert_eq!(two.trace(&later), traced(None, true, 3));
+    assert_eq!(two.receive(&later)?.len(), 1);
+    let had = Some(Refusal::HadAlready);
+    assert_eq!(two.trace(&later), traced(had, true, 3));
+    let own = frame(2, 1000, 1, &[500]);
+    assert_eq!(two.trace(&own), traced(Some(Refusal::OwnSource), false, 1));
+    let late = frame(4, 9, 0, &[]);
+    assert_eq!(two.trace(&late), traced(Some(Refusal::Lapsed), true, 0));
+    let cut = traced(Some(Refusal::FrameShort), false, 0);
+    assert_eq!(two.trace(&later[..later.len() - 1]), cut);
+    assert_eq!(two.trace(&[]), cut);
+    Ok(())
+}
+
 fn logs() {
     let mut log = [0; 2 * LOG_RECORD];
     log[..8].copy_from_slice(b"\x03\0\0\x05\x14\x02OK");
@@ -158,6 +188,7 @@ fn main() -> Result<(), Refusal> {
     receives()?;
     refusals()?;
     full_list()?;
+    traces()?;
     logs();
     bundles();
     Ok(())

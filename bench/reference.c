@@ -140,6 +140,33 @@ uint8_t c_clock(Record *record, uint32_t time, Buffer output, Written *written)
     return 0;
 }
 
+/* The last checks of a receive, in its order. They stand twice, as the receive that is measured
+   becomes other code if both share them. */
+static uint8_t number_of_trace(const Record *record, const Message *message, bool is_ready)
+{
+    if (message->source == record->own)
+        return 20;
+    if (message->deadline < record->time)
+        return 21;
+    if (message->deadline <= record->marks[message->source] || is_waiting(record, message))
+        return 22;
+    return !is_ready && record->count == WAITING_MAX ? 23 : 0;
+}
+
+Trace c_trace(const Record *record, Slice frame)
+{
+    Message message;
+    bool whole = sound(record);
+    uint8_t number = c_frame_read(frame.bytes, frame.length, &message);
+    if (number != 0)
+        return (Trace){whole ? number : 26, false, 0};
+
+    size_t visited = 0;
+    bool is_ready = visit(record, &message, &visited);
+    number = whole ? number_of_trace(record, &message, is_ready) : 26;
+    return (Trace){number, is_ready, visited};
+}
+
 LogRecord c_log_record(Slice log, size_t index)
 {
     LogRecord none = {log.bytes, 0, 0, 0};

@@ -2,11 +2,12 @@
  * The causal message module of the dryer panel, written by hand in C.
  * Every call works in place on the record behind its pointer and answers 0 or
  * the number of the refusal; a refused call changes nothing, and its count and
- * length are 0.
+ * length are 0. A trace never changes anything.
  */
 #ifndef REFERENCE_H
 #define REFERENCE_H
 
+#include <stdbool.h>
 #include <stddef.h>
 #include <stdint.h>
 
@@ -63,6 +64,16 @@ uint8_t c_beacon(Record *record, Slice payload, Buffer output, Buffer buffer,
                  Written *written);
 uint8_t c_receive(Record *record, Slice frame, Buffer output, Written *written);
 uint8_t c_clock(Record *record, uint32_t time, Buffer output, Written *written);
+
+/* What a trace answers: the number of a receive with an output that is long enough, whether the
+   message is ready, and how many entries the test for that visited. */
+typedef struct {
+    uint8_t number;
+    bool ready;
+    size_t visited;
+} Trace;
+
+Trace c_trace(const Record *record, Slice frame);
 
 /* The number of the refusal of reading a frame, or 0. */
 uint8_t c_frame_check(const uint8_t *frame, size_t length);

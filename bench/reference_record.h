@@ -4,8 +4,6 @@
 
 #include "reference_frames.h"
 
-#include <stdbool.h>
-
 static inline uint32_t larger(uint32_t a, uint32_t b)
 {
     return a < b ? b : a;
@@ -43,15 +41,26 @@ static inline bool sound(const Record *record)
     return true;
 }
 
-static inline bool ready(const Record *record, const Message *message)
+/*
+ * The test for ready. It goes from one set bit to the next, lowest first, up to
+ * the first entry that is not met, and where a count is given adds its visits.
+ */
+static inline bool visit(const Record *record, const Message *message, size_t *visited)
 {
     const uint32_t *entry = message->entries;
     for (uint64_t rest = message->mask; rest != 0; rest &= rest - 1, entry++) {
         int source = __builtin_ctzll(rest);
+        if (visited)
+            ++*visited;
         if (record->marks[source] < *entry && *entry >= record->time)
             return false;
     }
     return true;
+}
+
+static inline bool ready(const Record *record, const Message *message)
+{
+    return visit(record, message, NULL);
 }
 
 static inline bool is_waiting(const Record *record, const Message *message)

@@ -79,6 +79,8 @@ static void random_receive(Panel *panel, Record *record)
     random_frame(&frame, panel);
     if (chance(100))
         both_check(slice_of(&frame));
+    if (chance(250))
+        both_trace(panel, record, slice_of(&frame));
     both_receive(panel, record, slice_of(&frame));
 }
 

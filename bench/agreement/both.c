@@ -65,14 +65,20 @@ static void start_call(Kind kind, const char *what, uint64_t value, Slice bytes)
     memcpy(bytes_before, bytes.bytes, bytes.length);
 }
 
-/* For a call that is given a record and an output. */
+/* For a call that is given a record. */
+static void give_record(const Panel *panel, const Record *record)
+{
+    memcpy(&call.panel, panel, sizeof call.panel);
+    memcpy(&call.record, record, sizeof call.record);
+}
+
+/* For one that is given an output too. */
 static void start_on_record(const Panel *panel, const Record *record)
 {
     lend(&output, OUTPUT_MIN);
     lend(&buffer, FRAME_MAX);
     call.output_length = output.length;
-    memcpy(&call.panel, panel, sizeof call.panel);
-    memcpy(&call.record, record, sizeof call.record);
+    give_record(panel, record);
 }
 
 static void end_call(PanelNumber number, uint8_t c_number)
@@ -173,6 +179,19 @@ void both_clock(Panel *panel, Record *record, uint32_t time)
     PanelAnswer answer = panel_clock(panel, time, output.proved + MARGIN, output.length);
     uint8_t number = c_clock(record, time, lent_to_c(&output), &written);
     end_on_record(answer, number, written, panel, record);
+}
+
+void both_trace(const Panel *panel, const Record *record, Slice frame)
+{
+    start_call(TRACE, "trace", 0, frame);
+    give_record(panel, record);
+    PanelTrace given = panel_trace(panel, frame.bytes, frame.length);
+    Trace expected = c_trace(record, frame);
+    end_call(given.number, expected.number);
+    same_number("ready", given.ready, expected.ready);
+    same_number("the number of entries visited", given.visited, expected.visited);
+    same_as_given(panel, record);
+    saw_visits(expected.ready, expected.visited);
 }
 
 void both_check(Slice frame)

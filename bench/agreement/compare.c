@@ -10,7 +10,7 @@
 #include <string.h>
 
 const char *const kind_name[KINDS] = {
-    "fresh", "send", "beacon", "receive", "clock", "check", "log", "bundle"
+    "fresh", "send", "beacon", "receive", "clock", "trace", "check", "log", "bundle"
 };
 
 Call call;
@@ -24,7 +24,7 @@ void differ(const char *format, ...)
     vprintf(format, arguments);
     va_end(arguments);
     printf("\n");
-    if (call.kind >= SEND && call.kind <= CLOCK)
+    if (call.kind >= SEND && call.kind <= TRACE)
         printf("  given a record with own %u, time %u, high %u, %zu waiting\n",
                call.panel.own, call.panel.time, call.panel.high, call.panel.count);
     printf("  %s %llu, output of %zu bytes, %zu bytes given:", call.what,
@@ -114,7 +114,8 @@ void same_as_given(const Panel *panel, const Record *record)
     size_t other = first_other(panel, &call.panel, sizeof *panel);
 
     if (other < sizeof *panel)
-        differ("refused, but byte %zu of the record (%s) changed", other, part_at(other));
+        differ("nothing was to change, but byte %zu of the record (%s) did", other,
+               part_at(other));
     if (first_other(record, &call.record, sizeof *record) < sizeof *record)
-        differ("refused, but the C record changed");
+        differ("nothing was to change, but the C record did");
 }

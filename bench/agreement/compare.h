@@ -6,7 +6,7 @@
 
 #include <panel.h>
 
-typedef enum { FRESH, SEND, BEACON, RECEIVE, CLOCK, CHECK, LOG, BUNDLE, KINDS } Kind;
+typedef enum { FRESH, SEND, BEACON, RECEIVE, CLOCK, TRACE, CHECK, LOG, BUNDLE, KINDS } Kind;
 
 extern const char *const kind_name[KINDS];
 

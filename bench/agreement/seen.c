@@ -3,12 +3,12 @@
 
 #include "both.h"
 
-#include <stdbool.h>
 #include <stdio.h>
 
 static unsigned long seen[KINDS][256];
 static unsigned long handed_seen[WAITING_MAX + 2];
 static unsigned long waiting_seen[WAITING_MAX + 1];
+static unsigned long visits_seen[2][PANELS + 1]; /* of messages that are not ready, and ready */
 
 void saw_number(uint8_t number)
 {
@@ -19,6 +19,11 @@ void saw_accepted(size_t handed, size_t waiting)
 {
     handed_seen[handed]++;
     waiting_seen[waiting]++;
+}
+
+void saw_visits(bool ready, size_t visited)
+{
+    visits_seen[ready][visited]++;
 }
 
 static void print_numbers(void)
@@ -49,6 +54,12 @@ static unsigned long sum(const unsigned long *counts, int first, int last)
     return all;
 }
 
+static void print_visits(const char *what, const unsigned long *visits)
+{
+    printf("entries visited by traces, %s: none %lu, 1 %lu, 2 %lu, 3 to 63 %lu, 64 %lu\n", what,
+           visits[0], visits[1], visits[2], sum(visits, 3, PANELS - 1), visits[PANELS]);
+}
+
 void print_seen(void)
 {
     printf("%lu calls agree.\n\n", calls_made);
@@ -58,6 +69,8 @@ void print_seen(void)
            sum(handed_seen, 8, 31), handed_seen[32], handed_seen[33]);
     printf("waiting after accepted calls: none %lu, 1 to 31 %lu, 32 %lu\n", waiting_seen[0],
            sum(waiting_seen, 1, WAITING_MAX - 1), waiting_seen[WAITING_MAX]);
+    print_visits("ready", visits_seen[true]);
+    print_visits("not ready", visits_seen[false]);
     printf("log records read: %lu, and %lu times there was none\n", seen[LOG][0], seen[LOG][1]);
     printf("bundles read: %lu frames, %lu ends, %lu broken\n\n", seen[BUNDLE][BUNDLE_FRAME],
            seen[BUNDLE][BUNDLE_END], seen[BUNDLE][BUNDLE_BROKEN]);

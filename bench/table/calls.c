@@ -19,6 +19,11 @@ void to_receive(const Message *message)
     to_take(RECEIVE, message);
 }
 
+void to_trace(const Message *message)
+{
+    to_take(TRACE, message);
+}
+
 void to_receive_and_read(const Message *message)
 {
     to_take(RECEIVE_AND_READ, message);

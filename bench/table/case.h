@@ -14,6 +14,7 @@ typedef enum {
     FRESH,
     LOG,    /* reads a log */
     BUNDLE, /* goes through a bundle */
+    TRACE,
     SEND,
     BEACON,
     RECEIVE,
@@ -95,7 +96,7 @@ void to_fresh(uint8_t own);
 void to_send(uint8_t length, uint16_t lifetime);
 void to_beacon(uint8_t length);
 void to_receive(const Message *message);
-
+void to_trace(const Message *message);
 
 /* To receive, and to read the log records. */
 void to_receive_and_read(const Message *message);

@@ -43,6 +43,15 @@ INLINED uint8_t read_bundle(bool received, size_t *count)
     return last;
 }
 
+/* The number of a trace, and as its count the entries visited. */
+INLINED uint8_t trace_frame(Slice frame, size_t *count)
+{
+    Trace trace = c_trace(&record, frame);
+    caller.ready += trace.ready;
+    *count = trace.visited;
+    return trace.number;
+}
+
 INLINED void make_call(Kind kind)
 {
     Written written = {0, 0};
@@ -62,6 +71,8 @@ INLINED void make_call(Kind kind)
     else if (kind == BEACON)
         number = c_beacon(&record, bytes, log_buffer,
                           (Buffer){frame_buffer, now.frame_length}, &written);
+    else if (kind == TRACE)
+        number = trace_frame(bytes, &written.count);
     else if (kind == CLOCK)
         number = c_clock(&record, now.time, log_buffer, &written);
     else if (kind == RECEIVE || kind == RECEIVE_AND_READ)

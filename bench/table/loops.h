@@ -39,6 +39,7 @@ INLINED void keep(void)
 typedef struct {
     size_t handed;
     size_t refused;
+    size_t ready; /* traces of messages that are ready */
     uint32_t deadline;
     uint8_t source;
     uint8_t length;
@@ -95,6 +96,7 @@ extern const Loops proved_loops, c_loops;
     LOOP(fresh_loop, make_call, worked, FRESH)                                    \
     LOOP(log_loop, make_call, worked, LOG)                                        \
     LOOP(bundle_loop, make_call, worked, BUNDLE)                                  \
+    LOOP(trace_loop, make_call, worked, TRACE)                                    \
     LOOP(send_loop, make_call, worked, SEND)                                      \
     LOOP(beacon_loop, make_call, worked, BEACON)                                  \
     LOOP(receive_loop, make_call, worked, RECEIVE)                                \
@@ -111,8 +113,8 @@ extern const Loops proved_loops, c_loops;
     }                                                                             \
                                                                                   \
     const Loops name = {                                                          \
-        {check_loop, fresh_loop, log_loop, bundle_loop, send_loop, beacon_loop,   \
-         receive_loop, read_loop, received_bundle_loop, clock_loop},              \
+        {check_loop, fresh_loop, log_loop, bundle_loop, trace_loop, send_loop,    \
+         beacon_loop, receive_loop, read_loop, received_bundle_loop, clock_loop}, \
         put_back_loop,                                                            \
         worked                                                                    \
     };

@@ -45,6 +45,14 @@ INLINED PanelAnswer read_bundle(bool received)
     return all;
 }
 
+/* The number of a trace, and as its count the entries visited. */
+INLINED PanelAnswer trace_frame(const uint8_t *frame, size_t length)
+{
+    PanelTrace trace = panel_trace(&panel, frame, length);
+    caller.ready += trace.ready;
+    return (PanelAnswer){trace.visited, 0, trace.number};
+}
+
 INLINED void make_call(Kind kind)
 {
     PanelAnswer given = {0, 0, PANEL_ACCEPTED};
@@ -61,6 +69,8 @@ INLINED void make_call(Kind kind)
     else if (kind == BEACON)
         given = panel_beacon(&panel, now.bytes, now.length, output, now.output_length,
                              frame_buffer, now.frame_length);
+    else if (kind == TRACE)
+        given = trace_frame(now.bytes, now.length);
     else if (kind == CLOCK)
         given = panel_clock(&panel, now.time, output, now.output_length);
     else if (kind == RECEIVE || kind == RECEIVE_AND_READ)

@@ -70,4 +70,5 @@ void each_row(Visit *visit)
     receive_rows();
     receive_refusal_rows();
     clock_rows();
+    trace_rows();
 }

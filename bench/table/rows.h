@@ -14,7 +14,8 @@ void each_row(Visit *visit);
 
 /* ---- For the files that hold the rows ---- */
 
-/* A row of the case at hand, with the number and count that each side has to give. */
+/* A row of the case at hand, with the number and count that each side has to give; the count of a
+   trace is that of the entries visited. */
 void row(const char *label, uint8_t number, size_t count);
 
 /*
@@ -30,5 +31,6 @@ void send_rows(void);
 void receive_rows(void);
 void receive_refusal_rows(void);
 void clock_rows(void);
+void trace_rows(void);
 
 #endif

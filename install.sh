@@ -81,7 +81,7 @@ archive() {
 # One archive, with the objects of six.
 mkdir -p "$built"
 rm -f "$built"/*.o "$built/libpanel.a"
-for crate in exports beacon trace frame log_records bundle; do
+for crate in exports beacon tracing frame log_records bundle; do
     archive $crate
     (cd "$built" && $ar x "../staticlib/lib$crate.a")
 done

@@ -13,6 +13,8 @@ use Rattle.tracing.proofs.panel_trace_parts.Statement as panel-trace-parts
 use Rattle.tracing.proofs.panel_trace_parts.Met as panel-trace-parts-theorem
 use Rattle.panel.proofs.panel_fresh.Statement as panel-fresh
 use Rattle.panel.proofs.panel_fresh.Met as panel-fresh-theorem
+use Rattle.panel.proofs.panel_trace.Statement as panel-trace
+use Rattle.panel.proofs.panel_trace.Met as panel-trace-theorem
 use Rattle.by_value.proofs.panel_send.Statement as panel-send
 use Rattle.by_value.proofs.panel_send.Met as panel-send-theorem
 use Rattle.by_value.proofs.panel_beacon.Statement as panel-beacon
@@ -21,8 +23,6 @@ use Rattle.by_value.proofs.panel_receive.Statement as panel-receive
 use Rattle.by_value.proofs.panel_receive.Met as panel-receive-theorem
 use Rattle.by_value.proofs.panel_clock.Statement as panel-clock
 use Rattle.by_value.proofs.panel_clock.Met as panel-clock-theorem
-use Rattle.by_value.proofs.panel_trace.Statement as panel-trace
-use Rattle.by_value.proofs.panel_trace.Met as panel-trace-theorem
 use Rattle.frame.proofs.frame_check.Statement as frame-check
 use Rattle.frame.proofs.frame_check.Met as frame-check-theorem
 use Rattle.frame.proofs.read.Statement as read

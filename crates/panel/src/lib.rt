@@ -1,6 +1,9 @@
-// The panel's record as a struct, and fresh by value, thin over fresh in place. `panel_fresh`
-// accepts any input.
+// The panel's record as a struct, and by value the calls that do not change one: fresh, which makes it,
+// and trace, which looks at it. Both are thin over those in place, and accept any input.
+mod trace;
+
 use exports::panel_fresh_parts;
+pub use trace::panel_trace;
 ghost use mathlib.Core.Path.{_≡_};
 ghost use Rattle.rules.specs.Refusals.{freshNumber, freshRecord};
 ghost use Rattle.panel.specs.Record.{recordOf};

@@ -1,8 +1,9 @@
 // Runs the calls by value, each accepted and each refused: bench cases 1, 2, 6 and 11 of document 01,
-// beacons, and a panel number above 63. It prints a line for each call; the file stdout beside src/ is what it
-// must print. (tests/ runs all bench cases, in place.)
+// beacons, a trace of each frame before its receive, and a panel number above 63. It prints a line for each
+// call; the file stdout beside src/ is what it must print. (tests/ runs all bench cases, in place.)
 use by_value::Sent;
 use panel::Panel;
+use tracing::Trace;
 
 fn print(text: &[u8]) {
     io::write_all(1, text);
@@ -49,7 +50,19 @@ fn fresh(own: u8) -> Panel {
     p
 }
 
+// What a trace shows of a frame.
+fn print_trace(shown: Trace) {
+    print_item(b"trace: ", shown.number as u64);
+    if shown.ready {
+        print(b", ready");
+    }
+    print_item(b", visited ", shown.visited as u64);
+    print(b"\n");
+}
+
+// A trace of a frame, and then its receive.
 fn receive(p: Panel, frame: &[u8]) -> Panel {
+    print_trace(panel::panel_trace(p, frame));
     let mut output = [0u8; 1254];
     let answer = by_value::panel_receive(p, frame, &mut output);
     let panel = answer.panel;

@@ -1,13 +1,13 @@
 // A trace by value, thin over that in place.
-use panel::Panel;
+use crate::Panel;
 use tracing::Trace;
 use tracing::panel_trace_parts;
 ghost use mathlib.Core.Path.{_≡_};
 ghost use Rattle.rules.specs.Visiting.{trace};
 ghost use Rattle.tracing.specs.Shown.{shownIn};
 ghost use Rattle.panel.specs.Record.{recordOf};
 
-// A frame is looked at: what a receive of it would do, and the visits of the test for ready.
+// A frame is looked at: what a receive of it would answer, and the visits of the test for ready.
 pub fn panel_trace(p: Panel, frame: &[u8]) -> Trace
     ensures { λ r. ⌜ shownIn r ≡ trace (recordOf p) (now (frame .entry)) ⌝ }
 {

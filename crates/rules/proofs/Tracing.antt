@@ -1,14 +1,14 @@
 -- What a trace tells of the receive of the same frame on the same record. Assumes nothing.
 use Prim.Native.Nat.{ℕ, _≤_}
 use mathlib.Core.Path.{_≡_, refl, sym, ap, _∙_}
-use mathlib.Core.Bool.{Bool, true, false, cond, _||_, true≢false}
-use mathlib.Core.List.{List, [], _∷_, _++_}
+use mathlib.Core.Bool.{true, _||_, true≢false}
+use mathlib.Core.List.{List, _∷_}
 use lib.ListN.{length}
 use lib.Dec.{eqb}
 use borrow.Author.Tests.{le-ltb}
 use Rattle.frame.specs.Message.{Message}
 use Rattle.frame.specs.Refusal.{firstOf}
-use Rattle.frame.specs.Reading.{Reading, message, refused, checks, refusal, messageIn, reading}
+use Rattle.frame.specs.Reading.{Reading, message, refused, checks, messageIn, reading}
 use Rattle.frame.proofs.FirstOf.{eachNumber}
 use Rattle.frame.proofs.Passed.{reading-message}
 use Rattle.rules.specs.Sizes.{width, outputLength}
@@ -16,7 +16,7 @@ use Rattle.rules.specs.Panel.{Panel, ready}
 use Rattle.rules.specs.Handing.{hand}
 use Rattle.rules.specs.Settling.{settle}
 use Rattle.rules.specs.Calls.{handAndSettle, receiving}
-use Rattle.rules.specs.Refusals.{isRefusal, broken, messageChecks, receiveChecks}
+use Rattle.rules.specs.Refusals.{isRefusal, messageChecks, receiveChecks}
 use Rattle.rules.specs.Results.{receive, defined}
 use Rattle.rules.specs.Visiting.{traceChecks, shown, trace}
 use Rattle.rules.proofs.Results.{defined-number}

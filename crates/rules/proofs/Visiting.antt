@@ -1,17 +1,17 @@
 -- The visits of the test for ready, counted: by the bits of the mask, up to a panel whose entry is not met, or all of them. Assumes nothing.
 use Prim.Native.Nat.{ℕ, zero, suc, _+_, _≤_, _<_}
 use native.Mathlib.Nat.{add-zero, zero-add, not-suc-le-zero, suc-add, add-suc}
-use native.Mathlib.Numerals.{one-add, add-one}
+use native.Mathlib.Numerals.{one-add}
 use native.Mathlib.Omega.{arith}
 use mathlib.Core.Path.{_≡_, refl, sym, ap, _∙_}
 use mathlib.Core.Bool.{Bool, true, false, cond, _&&_, true≢false}
-use mathlib.Core.Logic.{_↔_, _≢_}
+use mathlib.Core.Logic.{_≢_}
 use mathlib.Core.List.{List, [], _∷_}
 use lib.ListN.{length, getD, drop}
 use lib.Count.{onesIn}
 use borrow.Author.Tests.{le-leb}
 use Rattle.numbers.proofs.Ones.{onesIn-zero}
-use Rattle.frame.specs.Message.{Message, bit, maskOf}
+use Rattle.frame.specs.Message.{Message, maskOf}
 use Rattle.frame.proofs.Conjunction.{and-both}
 use Rattle.frame.proofs.Entries.{maskOf-mod, maskOf-div}
 use Rattle.rules.specs.Panel.{Panel, met, eachPanel, ready}
@@ -41,7 +41,7 @@ unfolding met
 met-none p panel = rw (le-leb 0 (getD (p .marks) panel 0) (omega arith))
 
 -- the entries are as many as the ones
-pub length-entries : (panel n : ℕ) (es : List ℕ) → length es ≤ n → length (entriesFrom panel es) ≡ onesIn n (maskOf es)
+length-entries : (panel n : ℕ) (es : List ℕ) → length es ≤ n → length (entriesFrom panel es) ≡ onesIn n (maskOf es)
 unfolding entriesFrom maskOf
 length-entries panel n [] few = sym (onesIn-zero n)
 length-entries panel zero (e ∷ es) few = absurd (not-suc-le-zero few)
@@ -158,8 +158,7 @@ visits-stop p m panel below unmet =
     stop-from p 0 (m .entries) panel
     (λ i lt. rw (zero-add i) (eachPanel-true panel (λ i. met p i (getD (m .entries) i 0)) below i lt)) (rw (zero-add panel) unmet)
 
--- with a number for each of 64 panels
-
+-- of one that has a number for each of 64 panels
 module _ (p : Panel) (m : Message) (size : length (m .entries) ≡ 64) where
   ready-metFrom : ready p m ≡ true → MetFrom p 0 (m .entries) (length (m .entries))
   unfolding ready

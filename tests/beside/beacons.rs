@@ -113,14 +113,6 @@ fn refused_beacons(both: &mut Both) -> Result<(), Found> {
     refuses(both, &mut three, long(), 9)?;
     refuses(both, &mut three, long().lent(OUTPUT - 1, FRAME), 10)?;
     refuses(both, &mut three, long().lent(OUTPUT, FRAME - 1), 10)?;
-    let mut broken = both.kept(&Kept {
-        own: 64,
-        time: 100,
-        high: 0,
-        marks: [0; 64],
-        barrier: [0; 64],
-        count: 0,
-        frames: Vec::new(),
-    });
+    let mut broken = both.kept(&Kept::at(64, 100));
     refuses(both, &mut broken, long().lent(OUTPUT - 1, FRAME), 26)
 }

@@ -24,6 +24,9 @@ pub enum Call {
         bytes: Vec<u8>,
         output: usize,
     },
+    Trace {
+        bytes: Vec<u8>,
+    },
     Clock {
         reading: u32,
         output: usize,
@@ -58,6 +61,13 @@ impl Call {
         }
     }
 
+    /// A trace.
+    pub fn trace(bytes: &[u8]) -> Call {
+        Call::Trace {
+            bytes: bytes.to_vec(),
+        }
+    }
+
     /// A clock call whose output is exactly long enough.
     pub fn clock(reading: u32) -> Call {
         Call::Clock {
@@ -73,17 +83,19 @@ impl Call {
                 (*output, *frame) = (length, frame_length)
             }
             Call::Receive { output, .. } | Call::Clock { output, .. } => *output = length,
+            Call::Trace { .. } => {}
         }
         self
     }
 
-    /// The length of the output.
+    /// The length of the output, 0 for a trace.
     pub fn output(&self) -> usize {
         match self {
             Call::Send { output, .. }
             | Call::Beacon { output, .. }
             | Call::Receive { output, .. }
             | Call::Clock { output, .. } => *output,
+            Call::Trace { .. } => 0,
         }
     }
 
@@ -99,7 +111,7 @@ impl Call {
     pub fn input(&self) -> &[u8] {
         match self {
             Call::Send { payload, .. } | Call::Beacon { payload, .. } => payload,
-            Call::Receive { bytes, .. } => bytes,
+            Call::Receive { bytes, .. } | Call::Trace { bytes } => bytes,
             Call::Clock { .. } => &[],
         }
     }
@@ -123,6 +135,7 @@ impl Call {
                 bytes: hexadecimal::read(bytes)?,
                 output: output.parse().ok()?,
             }),
+            ["trace", bytes] => Some(Call::trace(&hexadecimal::read(bytes)?)),
             ["clock", reading, output] => Some(Call::Clock {
                 reading: reading.parse().ok()?,
                 output: output.parse().ok()?,
@@ -146,6 +159,7 @@ impl fmt::Display for Call {
             }
             Call::Beacon { output, frame, .. } => write!(text, "beacon {input} {output} {frame}"),
             Call::Receive { output, .. } => write!(text, "receive {input} {output}"),
+            Call::Trace { .. } => write!(text, "trace {input}"),
             Call::Clock { reading, output } => write!(text, "clock {reading} {output}"),
         }
     }

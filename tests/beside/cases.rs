@@ -7,6 +7,7 @@ use crate::compare::{Both, Pair};
 use crate::compose::{deadline_of, frame};
 use crate::second::{listing, LOG_RECORD, OUTPUT};
 use crate::side::{Found, Side};
+use crate::traces;
 use std::path::Path;
 
 /// Messages of a log: source, deadline and payload.
@@ -14,7 +15,7 @@ pub type Log<'log> = &'log [(u8, u32, &'log [u8])];
 
 /// All cases. Those of the text need the program `list`.
 pub fn run(both: &mut Both, program: &Path) -> Result<(), Found> {
-    let cases: [fn(&mut Both) -> Result<(), Found>; 11] = [
+    let cases: [fn(&mut Both) -> Result<(), Found>; 12] = [
         cases_1_to_3,
         case_4,
         case_5,
@@ -26,6 +27,7 @@ pub fn run(both: &mut Both, program: &Path) -> Result<(), Found> {
         case_11,
         sizes,
         beacons::run,
+        traces::run,
     ];
     for case in cases {
         case(both)?;

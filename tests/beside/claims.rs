@@ -90,6 +90,7 @@ impl Claims {
                 None => self.void = true,
             },
             Call::Clock { reading, .. } => self.panels[panel].time = *reading,
+            Call::Trace { .. } => {}
         }
         for record in output.chunks_exact(LOG_RECORD).take(answer.count) {
             let message = self.message(record[0], deadline_of(&record[1..5]));

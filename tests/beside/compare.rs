@@ -7,7 +7,8 @@ use crate::kept::Kept;
 use crate::module::Record;
 use crate::random::Random;
 use crate::room::Room;
-use crate::same::{all_zero, same_number, same_records, unchanged, untouched};
+use crate::same::{all_zero, foretold, same_answer, same_number, same_records};
+use crate::same::{unchanged, untouched};
 use crate::script::{Script, Start};
 use crate::second::{self, Answer};
 use crate::side::{call_second, Found, Side};
@@ -80,6 +81,29 @@ impl Both {
         }
     }
 
+    /// Makes a receive, before it a trace of its frame in the same room, and compares the two.
+    fn receive(&mut self, pair: &mut Pair, call: &Call) -> Result<Answer, Found> {
+        let trace = self.make(pair, &Call::trace(call.input()))?;
+        let answer = self.make(pair, call)?;
+        foretold(trace, call, answer, self.output()).map_err(|what| {
+            let answers = format!("{trace}\nreceive: {answer}\n");
+            Found::new(answers + &what).with(self.script(pair))
+        })?;
+        Ok(answer)
+    }
+
+    /// Makes a call on both in the rooms as they are, and compares what comes of it.
+    fn make(&mut self, pair: &mut Pair, call: &Call) -> Result<Answer, Found> {
+        let by_module = self.call_module(&mut pair.module, call);
+        let by_second = call_second(&mut pair.second, call, &mut self.second_room);
+        self.counts.call(call, by_module, pair.module.count);
+        self.compare(pair, by_module, by_second).map_err(|what| {
+            let answers = format!("module: {by_module}\nsecond: {by_second}\n");
+            Found::new(answers + &what).with(self.script(pair))
+        })?;
+        Ok(by_module)
+    }
+
     /// Makes the call on the module.
     fn call_module(&mut self, record: &mut Record, call: &Call) -> Answer {
         let [input, output, frame] = self.room.lent();
@@ -87,23 +111,23 @@ impl Both {
             Call::Send { lifetime, .. } => record.send(input, *lifetime, output, frame),
             Call::Beacon { .. } => record.beacon(input, output, frame),
             Call::Receive { .. } => record.receive(input, output),
+            Call::Trace { .. } => record.trace(input),
             Call::Clock { reading, .. } => record.clock(*reading, output),
         }
     }
 
     /// Compares answers, buffers and records after a call.
     fn compare(&self, pair: &Pair, module: Answer, second: Answer) -> Result<(), String> {
-        same_number("number", u64::from(module.number), u64::from(second.number))?;
-        same_number("count", module.count as u64, second.count as u64)?;
-        same_number("length", module.length as u64, second.length as u64)?;
+        same_answer(module, second)?;
         if let Some(what) = self.room.difference(&self.second_room) {
             return Err(what);
         }
-        if module.number != 0 {
+        let traced = module.test.is_some();
+        if module.number != 0 || traced {
             unchanged(&self.before, &pair.module)?;
         }
         untouched(&self.before, &pair.module)?;
-        match pair.broken {
+        match pair.broken || traced {
             true => Ok(()),
             false => same_records(&pair.module, &pair.second),
         }
@@ -137,19 +161,17 @@ impl Side for Both {
         }
     }
 
+    /// Makes a call, and a trace before each receive. The trace needs no line in the script, as it
+    /// is made again with the receive.
     fn call(&mut self, pair: &mut Pair, call: &Call) -> Result<Answer, Found> {
+        pair.script.calls.push(call.clone());
+        self.before.clone_from(&pair.module);
         self.room.lend(call, &mut self.random);
         self.second_room.lend_as(&self.room);
-        self.before.clone_from(&pair.module);
-        let by_module = self.call_module(&mut pair.module, call);
-        let by_second = call_second(&mut pair.second, call, &mut self.second_room);
-        self.counts.call(call, by_module, pair.module.count);
-        pair.script.calls.push(call.clone());
-        self.compare(pair, by_module, by_second).map_err(|what| {
-            let answers = format!("module: {by_module}\nsecond: {by_second}\n");
-            Found::new(answers + &what).with(self.script(pair))
-        })?;
-        Ok(by_module)
+        match call {
+            Call::Receive { .. } => self.receive(pair, call),
+            _ => self.make(pair, call),
+        }
     }
 
     fn output(&self) -> &[u8] {

@@ -2,13 +2,13 @@
 
 use crate::calls::Call;
 use crate::lists::Done;
-use crate::second::Answer;
+use crate::second::{Answer, Test};
 use std::fmt::Write;
 
-/// Numbers go up to 26.
-const NUMBERS: usize = 27;
-/// What answers a number, and which ones it has to answer in a run.
-const ASKED: [(&str, &[u8]); 6] = [
+/// Numbers go up to 26. Those above, which nothing should answer, are counted with 27.
+const NUMBERS: usize = 28;
+/// What answers a number, and which ones it has to answer in a run. It never answers another.
+const ASKED: [(&str, &[u8]); 7] = [
     ("fresh", &[0, 11]),
     ("send", &[0, 9, 10, 24, 26]),
     ("beacon", &[0, 9, 10, 24, 26]),
@@ -17,8 +17,11 @@ const ASKED: [(&str, &[u8]); 6] = [
         &[0, 1, 2, 3, 4, 5, 6, 7, 8, 10, 20, 21, 22, 23, 26],
     ),
     ("clock", &[0, 10, 25, 26]),
+    ("trace", &[0, 1, 2, 3, 4, 5, 6, 7, 8, 20, 21, 22, 23, 26]),
     ("check", &[0, 1, 2, 3, 4, 5, 6, 7, 8]),
 ];
+/// How many visits are counted apart; more are counted with the last.
+const VISITS: usize = 4;
 
 #[derive(Default)]
 pub struct Counts {
@@ -32,6 +35,9 @@ pub struct Counts {
     several: u64,
     most_handed: usize,
     most_waiting: usize,
+    /// How many traces did not say ready, and how many did, by their visits.
+    tests: [[u64; VISITS]; 2],
+    most_visited: usize,
     lists: Done,
     pub bundle_steps: u64,
     pub log_reads: u64,
@@ -44,7 +50,7 @@ impl Counts {
     }
 
     pub fn check(&mut self, number: u8) {
-        self.count(5, number);
+        self.count(6, number);
     }
 
     pub fn lists(&mut self, done: &Done) {
@@ -58,8 +64,12 @@ impl Counts {
             Call::Beacon { .. } => 2,
             Call::Receive { .. } => 3,
             Call::Clock { .. } => 4,
+            Call::Trace { .. } => 5,
         };
         self.count(asked, answer.number);
+        if let Some(test) = answer.test {
+            return self.test(test);
+        }
         self.records += answer.count as u64;
         if answer.number == 0 {
             self.waited += u64::from(asked == 3 && answer.count == 0);
@@ -70,24 +80,45 @@ impl Counts {
     }
 
     fn count(&mut self, asked: usize, number: u8) {
-        if let Some(count) = self.answered[asked].get_mut(usize::from(number)) {
-            *count += 1;
-        }
+        self.answered[asked][usize::from(number).min(NUMBERS - 1)] += 1;
     }
 
-    /// All calls but those of the frame check.
+    /// Counts the test of a trace.
+    fn test(&mut self, test: Test) {
+        let visits = test.visited.min(VISITS - 1);
+        self.tests[usize::from(test.ready)][visits] += 1;
+        self.most_visited = self.most_visited.max(test.visited);
+    }
+
+    /// All calls but traces and those of the frame check.
     pub fn calls(&self) -> u64 {
         self.answered[..5].iter().flatten().sum()
     }
 
-    /// Each number that was never answered where document 01 has it.
-    pub fn missing(&self) -> Vec<String> {
-        let mut missing = Vec::new();
+    /// Each number that was never answered where document 01 has it, or answered where it has none.
+    pub fn wrong(&self) -> Vec<String> {
+        let mut wrong = self.missing_tests();
         for ((name, numbers), answered) in ASKED.iter().zip(&self.answered) {
-            let never = numbers
-                .iter()
-                .filter(|number| answered[usize::from(**number)] == 0);
-            missing.extend(never.map(|number| format!("{name} never answered {number}")));
+            for (number, count) in (0..).zip(answered) {
+                match (numbers.contains(&number), *count) {
+                    (true, 0) => wrong.push(format!("{name} never answered {number}")),
+                    (false, 1..) => wrong.push(format!("{name} answered {number}")),
+                    _ => {}
+                }
+            }
+        }
+        wrong
+    }
+
+    /// What no trace ever answered: ready or not, with so many visits. Not ready without a visit are
+    /// bytes that read as no message.
+    fn missing_tests(&self) -> Vec<String> {
+        let mut missing = Vec::new();
+        for (ready, counts) in [false, true].iter().zip(&self.tests) {
+            let never = (0..VISITS).filter(|visits| counts[*visits] == 0);
+            missing.extend(
+                never.map(|visits| format!("no trace said ready {ready}, visited {visits}")),
+            );
         }
         missing
     }
@@ -114,8 +145,9 @@ impl Counts {
     }
 
     /// The counts below the table.
-    fn rows(&self) -> [(u64, &'static str); 14] {
+    fn rows(&self) -> [(u64, &'static str); 21] {
         let spoken = self.lists.spoken;
+        let visited = |visits: usize| self.tests[0][visits] + self.tests[1][visits];
         [
             (
                 self.calls(),
@@ -128,6 +160,13 @@ impl Counts {
             (self.several, "calls that handed several messages"),
             (self.most_handed as u64, "most handed by one call"),
             (self.most_waiting as u64, "most waiting"),
+            (self.answered[5].iter().sum(), "traces"),
+            (self.tests[1].iter().sum(), "traces that said ready"),
+            (visited(0), "traces without a visit"),
+            (visited(1), "traces with one visit"),
+            (visited(2), "traces with two visits"),
+            (visited(3), "traces with three visits or more"),
+            (self.most_visited as u64, "most visits of one trace"),
             (self.lists.claim_checks, "checks of demand 3's claims"),
             (
                 spoken.messages,

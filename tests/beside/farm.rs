@@ -79,7 +79,7 @@ impl<'side, S: Side> Farm<'side, S> {
                     self.hold(place, self.frames.len() - 1);
                 }
                 Call::Clock { reading, .. } => member.time = *reading,
-                Call::Receive { .. } => {}
+                Call::Receive { .. } | Call::Trace { .. } => {}
             }
         }
         if self.calls <= 40 || self.random.chance(2) {

@@ -1,5 +1,5 @@
-//! Frames through the frame check and through receive: damaged at every byte, cut, extended, and
-//! random ones of every length.
+//! Frames through the frame check, and through a receive with its trace: damaged at every byte,
+//! cut, extended, and random ones of every length.
 
 use crate::calls::Call;
 use crate::compare::Both;
@@ -92,7 +92,7 @@ fn damaged_twice(both: &mut Both, frame: &[u8], random: &mut Random) -> Result<(
     Ok(())
 }
 
-/// The frame check and a receive of these bytes.
+/// The frame check and a receive of these bytes, with its trace.
 fn tried(both: &mut Both, bytes: &[u8], random: &mut Random) -> Result<(), Found> {
     let by_module = module::frame_check(bytes);
     let by_second = Message::read(bytes).err().unwrap_or(0);

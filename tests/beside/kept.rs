@@ -40,6 +40,19 @@ fn read_entries(text: &str) -> Option<[u32; 64]> {
 }
 
 impl Kept {
+    /// A panel at this time, in all else as a fresh one.
+    pub fn at(own: u8, time: u32) -> Kept {
+        Kept {
+            own,
+            time,
+            high: 0,
+            marks: [0; 64],
+            barrier: [0; 64],
+            count: 0,
+            frames: Vec::new(),
+        }
+    }
+
     /// Reads the text of a record.
     pub fn read(line: &str) -> Option<Kept> {
         let items: Vec<&str> = line.split_whitespace().collect();

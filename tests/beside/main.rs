@@ -24,6 +24,7 @@ mod same;
 mod script;
 mod second;
 mod side;
+mod traces;
 mod trials;
 
 use compare::Both;
@@ -90,13 +91,13 @@ fn compare_all(options: &Options, both: &mut Both) -> Result<(), Found> {
         println!("{name}: {words}");
         move |found: Found| found.within(format!("part {name}"))
     };
-    let named = part("cases", "document 01's bench cases 1 to 12, and beacons");
+    let named = part("cases", "bench cases 1 to 12, beacons and traces");
     cases::run(both, list).map_err(named)?;
     let named = part("bundles", "bundles at every place, and logs at every index");
     bundles::readers(both, seed, calls / 1_000 + 1).map_err(named)?;
     let named = part(
         "frames",
-        "damaged and random frames through the frame check and receive",
+        "damaged and random frames through the frame check, trace and receive",
     );
     frames::run(both, seed, calls / 100_000 + 1).map_err(named)?;
     let named = part("listings", "random bundles through the program list");
@@ -109,9 +110,9 @@ fn compare_all(options: &Options, both: &mut Both) -> Result<(), Found> {
     );
     let done = lists::run(both, seed, calls, false).map_err(named)?;
     both.counts.lists(&done);
-    match (done.void, both.counts.missing()) {
-        (0, missing) if missing.is_empty() => Ok(()),
-        (0, missing) => Err(Found::new(missing.join(", "))),
+    match (done.void, both.counts.wrong()) {
+        (0, wrong) if wrong.is_empty() => Ok(()),
+        (0, wrong) => Err(Found::new(wrong.join(", "))),
         (void, _) => Err(Found::new(format!(
             "{void} lists took a frame that nobody had sent, against their plan"
         ))),

@@ -1,8 +1,9 @@
 //! Whether numbers and records are the same, or in what words they differ.
 
+use crate::calls::Call;
 use crate::hexadecimal;
 use crate::module::Record;
-use crate::second;
+use crate::second::{self, Answer, LOG_RECORD, OUTPUT};
 
 pub fn same_number(name: &str, module: u64, second: u64) -> Result<(), String> {
     match module == second {
@@ -11,7 +12,44 @@ pub fn same_number(name: &str, module: u64, second: u64) -> Result<(), String> {
     }
 }
 
-/// After a refusal the module's record has every byte that it had.
+pub fn same_answer(module: Answer, second: Answer) -> Result<(), String> {
+    same_number("number", u64::from(module.number), u64::from(second.number))?;
+    same_number("count", module.count as u64, second.count as u64)?;
+    same_number("length", module.length as u64, second.length as u64)?;
+    let (Some(module), Some(second)) = (module.test, second.test) else {
+        return Ok(());
+    };
+    same_number("ready", u64::from(module.ready), u64::from(second.ready))?;
+    same_number("visited", module.visited as u64, second.visited as u64)
+}
+
+/// Whether a receive did what a trace of its frame had said: its number is the same, but for 10,
+/// and a message that is taken is the first in the log exactly if it was ready.
+pub fn foretold(trace: Answer, call: &Call, answer: Answer, output: &[u8]) -> Result<(), String> {
+    let number = match trace.number {
+        26 => 26,
+        _ if call.output() < OUTPUT => 10,
+        number => number,
+    };
+    if answer.number != number {
+        return Err(format!("the receive should have answered {number}"));
+    }
+    if number != 0 {
+        return Ok(());
+    }
+    // Source and deadline stand next to each other in the frame and in the log record.
+    let mut log = output.chunks_exact(LOG_RECORD).take(answer.count);
+    let first = log
+        .next()
+        .is_some_and(|record| record[..5] == call.input()[5..10]);
+    match (trace.test.is_some_and(|test| test.ready), first) {
+        (true, false) => Err("the message should be the first in the log".to_string()),
+        (false, true) => Err("the message should not be the first in the log".to_string()),
+        _ => Ok(()),
+    }
+}
+
+/// After a refusal or a trace the module's record has every byte that it had.
 pub fn unchanged(before: &Record, after: &Record) -> Result<(), String> {
     if before.bytes() == after.bytes() {
         return Ok(());
@@ -22,7 +60,7 @@ pub fn unchanged(before: &Record, after: &Record) -> Result<(), String> {
         .unwrap_or(0);
     let name = Record::name_of(place);
     Err(format!(
-        "the module refused, and changed its record: {name}"
+        "the module refused or traced, and changed its record: {name}"
     ))
 }
 
@@ -67,7 +105,7 @@ pub fn same_records(module: &Record, second: &second::Panel) -> Result<(), Strin
     same_entries("barrier entry", &module.barrier, &second.barrier_entries())?;
     for place in 0..module.count {
         let (module, second) = (module.waiting(place), second.waiting(place));
-        if module != second {
+        if *module != *second {
             let (module, second) = (hexadecimal::write(module), hexadecimal::write(&second));
             return Err(format!(
                 "waiting message {place}: module {module}, second {second}"

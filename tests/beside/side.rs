@@ -61,6 +61,7 @@ pub fn call_second(panel: &mut second::Panel, call: &Call, room: &mut Room) -> A
         Call::Send { lifetime, .. } => panel.send(input, *lifetime, output, frame),
         Call::Beacon { .. } => panel.beacon(input, output, frame),
         Call::Receive { .. } => panel.receive(input, output),
+        Call::Trace { .. } => panel.trace(input),
         Call::Clock { reading, .. } => panel.clock(*reading, output),
     }
 }

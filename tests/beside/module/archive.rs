@@ -7,6 +7,14 @@ pub struct PartsAnswer {
     pub number: u8,
 }
 
+/// What a trace answers.
+#[repr(C)]
+pub struct Trace {
+    pub visited: usize,
+    pub ready: bool,
+    pub number: u8,
+}
+
 /// The numbers of a log record.
 #[repr(C)]
 #[derive(Clone, Copy, Debug, Default, PartialEq, Eq)]
@@ -42,6 +50,8 @@ extern "C" {
     pub fn panel_receive_parts(own: u8, time: u32, high: *mut u32, count: *mut usize,
         marks: *mut u32, barrier: *mut u32, slots: *mut u8, frame: *const u8,
         frame_length: usize, output: *mut u8, output_length: usize) -> PartsAnswer;
+    pub fn panel_trace_parts(own: u8, time: u32, high: u32, count: usize, marks: *const u32,
+        barrier: *const u32, slots: *const u8, frame: *const u8, frame_length: usize) -> Trace;
     pub fn panel_clock_parts(own: u8, time: *mut u32, high: *mut u32, count: *mut usize,
         marks: *mut u32, barrier: *mut u32, slots: *mut u8, reading: u32, output: *mut u8,
         output_length: usize) -> PartsAnswer;

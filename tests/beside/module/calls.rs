@@ -3,13 +3,14 @@
 
 use super::archive::*;
 use super::Record;
-use crate::second::Answer;
+use crate::second::{Answer, Test};
 
 fn answer(parts: PartsAnswer) -> Answer {
     Answer {
         number: parts.number,
         count: parts.count,
         length: parts.length,
+        test: None,
     }
 }
 
@@ -94,6 +95,29 @@ impl Record {
                 output.len(),
             )
         })
+    }
+
+    pub fn trace(&mut self, frame: &mut [u8]) -> Answer {
+        let trace = unsafe {
+            panel_trace_parts(
+                self.own,
+                self.time,
+                self.high,
+                self.count,
+                self.marks.as_mut_ptr(),
+                self.barrier.as_mut_ptr(),
+                self.slots.as_mut_ptr(),
+                frame.as_mut_ptr(),
+                frame.len(),
+            )
+        };
+        let (ready, visited) = (trace.ready, trace.visited);
+        Answer {
+            number: trace.number,
+            count: 0,
+            length: 0,
+            test: Some(Test { ready, visited }),
+        }
     }
 
     pub fn clock(&mut self, reading: u32, output: &mut [u8]) -> Answer {

@@ -27,8 +27,8 @@ impl Panel {
             (Some(number), _) | (None, Err(number)) => return refused(number),
             (None, Ok(message)) => message,
         };
-        let ready = self.predecessors_left(&message).is_empty();
-        match self.refusal(&message, ready) {
+        let ready = self.test(&message).ready;
+        match first(self.state_checks(&message, ready)) {
             Some(number) => {
                 if planted(Fault::RefusedLapsedRaisesMark) && number == 21 {
                     raise(&mut self.delivered, message.source, message.deadline);
@@ -75,33 +75,41 @@ impl Panel {
         accepted(log.count(), 0)
     }
 
-    /// Why a readable message is turned down because of the state.
-    fn refusal(&self, message: &Message, ready: bool) -> Option<u8> {
+    /// Whether the deadline of a message is at most its source's mark.
+    pub fn logged(&self, message: &Message) -> bool {
+        let mark = self.delivered.get(&message.source).copied().unwrap_or(0);
+        match planted(Fault::LoggedCopyTaken) {
+            true => message.deadline < mark,
+            false => message.deadline <= mark,
+        }
+    }
+
+    /// Whether a message is waiting already.
+    pub fn waits(&self, message: &Message) -> bool {
+        let waiting = self.pending.iter().any(|pending| {
+            pending.message.source == message.source && pending.message.deadline == message.deadline
+        });
+        waiting && !planted(Fault::WaitingCopyTaken)
+    }
+
+    /// Why a readable message is turned down because of the state: the checks, in their order.
+    pub fn state_checks(&self, message: &Message, ready: bool) -> [(u8, bool); 4] {
         let lapsed = match planted(Fault::LapsedAtEqualTime) {
             true => message.deadline <= self.time,
             false => message.deadline < self.time,
         };
-        let mark = self.delivered.get(&message.source).copied().unwrap_or(0);
-        let logged = match planted(Fault::LoggedCopyTaken) {
-            true => message.deadline < mark,
-            false => message.deadline <= mark,
-        };
-        let waiting = self.pending.iter().any(|pending| {
-            pending.message.source == message.source && pending.message.deadline == message.deadline
-        });
-        let waiting = waiting && !planted(Fault::WaitingCopyTaken);
         let full = self.pending.len() + self.lost_places >= WAITING
             || planted(Fault::FullWithPlacesFree)
             || planted(Fault::FullWithThirtyOne) && self.pending.len() + 1 == WAITING;
-        first([
+        [
             (
                 20,
                 message.source == self.own && !planted(Fault::OwnSourceTaken),
             ),
             (21, lapsed),
-            (22, logged || waiting),
+            (22, self.logged(message) || self.waits(message)),
             (23, full && (!ready || planted(Fault::FullBeforeReady))),
-        ])
+        ]
     }
 
     /// Sets the time, drops the lapsed waiting messages and settles.

@@ -1,9 +1,9 @@
-//! Handing and settling: the source's codes 3, 4, 6, 7, 10, 12 and 13.
+//! The test for ready, handing and settling: the source's codes 3, 4, 6, 7, 10, 12 and 13.
 
-use super::faults::{planted, Fault};
+use super::faults::{planted, which, Fault};
 use super::log::Log;
 use super::panel::Pending;
-use super::{Barrier, Message, Panel};
+use super::{Barrier, Message, Panel, Test, PANELS};
 use std::cmp::Reverse;
 
 /// The larger of the entry of a panel and this one becomes the entry.
@@ -35,8 +35,40 @@ fn expunge_delivered_predecessors(left: &mut Barrier, delivered: &Barrier) {
     left.retain(|panel, entry| !met(panel, *entry));
 }
 
+/// Whether the test for ready looks at this entry: at each, but for planted faults.
+fn tested(panel: u8, entries: &Barrier) -> bool {
+    match which() {
+        Some(Fault::LowestEntryTestedOnly) => entries.keys().next() == Some(&panel),
+        Some(Fault::LowestBitNotTested) => panel > 0,
+        Some(Fault::HighestBitNotTested) => panel < PANELS - 1,
+        _ => true,
+    }
+}
+
+/// The test for ready. Document 02, W-202: "Let it go from one set bit to the next, lowest first,
+/// and also answer how many it visited: the set bits up to the first entry that is not met, that
+/// one included, or all of them." The set bits are the panels of the entries, and the entries that
+/// are not met are those left.
+pub fn visit(entries: &Barrier, left: &Barrier) -> Test {
+    let mut visited = 0;
+    for panel in entries.keys().filter(|panel| tested(**panel, entries)) {
+        visited += 1;
+        if left.contains_key(panel) {
+            let ready = false;
+            return Test { ready, visited };
+        }
+    }
+    let ready = true;
+    Test { ready, visited }
+}
+
 impl Panel {
-    /// What is left of a message's predecessors (codes 5 and 11). It is ready if none is.
+    /// The test for ready of a message that arrives.
+    pub fn test(&self, message: &Message) -> Test {
+        visit(&message.predecessors, &self.predecessors_left(message))
+    }
+
+    /// What is left of a message's predecessors (codes 5 and 11): the entries that are not met.
     pub fn predecessors_left(&self, message: &Message) -> Barrier {
         let mut left = message.predecessors.clone();
         if !planted(Fault::LapsedEntryWaitedFor) {
@@ -110,8 +142,7 @@ impl Panel {
     /// The place of the ready message that goes first: lowest deadline, then lowest source, then
     /// earliest in the list.
     fn next_ready(&self) -> Option<usize> {
-        let ready = |place: &usize| self.pending[*place].left.is_empty();
-        let places = (0..self.pending.len()).filter(ready);
+        let places = (0..self.pending.len()).filter(|place| self.pending[*place].ready());
         let known = |place: usize| {
             let message = &self.pending[place].message;
             (message.deadline, message.source)
@@ -149,7 +180,7 @@ impl Panel {
     fn pass_once(&mut self, log: &mut Log) {
         let mut place = 0;
         while place < self.pending.len() {
-            if self.pending[place].left.is_empty() {
+            if self.pending[place].ready() {
                 let pending = self.pending.remove(place);
                 self.perform_delivery(&pending.message, log);
             } else {

@@ -47,6 +47,9 @@ faults! {
     EntryMetAtEqualTime: "an entry equal to the time is met",
     EntryMetByEqualMarkOnly: "an entry below the mark is not met",
     LapsedEntryWaitedFor: "an entry lapsed on arrival is waited for until the next clock call",
+    LowestEntryTestedOnly: "the test for ready looks at the lowest entry only",
+    LowestBitNotTested: "the test for ready leaves panel 0 out",
+    HighestBitNotTested: "the test for ready leaves panel 63 out",
     // Settling and the list.
     HighestSourceFirst: "of equal deadlines the highest source goes first",
     HighestDeadlineFirst: "the highest deadline goes first",
@@ -96,6 +99,47 @@ faults! {
     BeaconLeavesBarrier: "a beacon leaves the barrier as it was",
     BeaconNotInBarrier: "a beacon empties the barrier and does not enter it",
     BeaconDoesNotSettle: "a beacon does not settle",
+    // The visits of a trace.
+    EmptyBitsVisited: "a trace visits empty bits too, all 64 for a ready message",
+    EmptyBitsBetweenVisited: "a trace visits the empty bits between two entries",
+    LastEntryNotVisited: "a trace does not count the entry that is not met",
+    VisitsGoOn: "a trace visits the entries behind the first that is not met too",
+    HighestPanelVisitedFirst: "a trace visits the highest panel first",
+    LapsedEntryNotVisited: "a trace does not count lapsed entries",
+    OnlyLeftVisited: "a trace counts the entries that are not met",
+    FirstWaitingVisited: "a trace visits the entries of the first waiting message",
+    WaitingVisitedToo: "a trace counts the visits to all waiting messages too",
+    VisitsOnlyWhereTaken: "a trace of a refused message answers no visits",
+    // Ready in a trace.
+    TraceByTheBarrier: "a trace tests by the barrier entries instead of the marks",
+    TraceByTheMarksAlone: "in a trace a lapsed entry is not met",
+    TraceByTheTimeAlone: "in a trace only lapsed entries are met",
+    TraceEntryMetAtEqualTime: "in a trace an entry equal to the time is met",
+    TraceEntryAtItsMarkNotMet: "in a trace an entry equal to its mark is not met",
+    TraceOwnEntryMet: "in a trace the entry of the own number is met",
+    TraceAfterSettling: "a trace tests by the record after settling",
+    UnreadableTracedAsReady: "a trace says ready of bytes that read as no message",
+    ReadyOnlyWhereTaken: "a trace says ready only where its number is 0",
+    BrokenTracedWithoutTest: "a trace of a broken record answers neither ready nor visits",
+    // The number of a trace.
+    TraceAsksForAnOutput: "a trace answers 10, as it has no output",
+    TraceForgetsBroken: "a trace never answers 26",
+    TraceFrameBeforeBroken: "1 to 8 before 26 in a trace",
+    TraceLapsedBeforeOwnSource: "21 before 20 in a trace",
+    TraceHadBeforeLapsed: "22 before 21 in a trace",
+    TraceFullBeforeHad: "23 before 22 in a trace",
+    TraceForgetsOwnSource: "a trace never answers 20",
+    TraceForgetsLapsed: "a trace never answers 21",
+    TraceLapsedAtEqualTime: "a trace answers 21 for a deadline equal to the time",
+    TraceForgetsMark: "a trace answers 22 for a waiting message only",
+    TraceForgetsWaiting: "a trace answers 22 by the mark only",
+    TraceForgetsFull: "a trace never answers 23",
+    TraceFullBeforeReady: "a trace answers 23 for a ready message too",
+    TraceFullWithThirtyOne: "a trace answers 23 with 31 waiting",
+    // What a trace changes.
+    TraceTakesTheMessage: "a trace takes the message, as a receive does",
+    TraceRaisesTheMark: "a trace raises the mark of the source",
+    TraceDropsTheLapsed: "a trace drops lapsed waiting messages",
     // The order of the refusals.
     ShortBeforeBroken: "10 before 26",
     LongPayloadBeforeShort: "9 before 10",
@@ -169,14 +213,19 @@ pub fn plant(fault: Option<Fault>) {
     PLANTED.set(fault);
 }
 
+/// The fault that is switched on.
+pub fn which() -> Option<Fault> {
+    PLANTED.get()
+}
+
 /// Whether this fault is switched on.
 pub fn planted(fault: Fault) -> bool {
-    PLANTED.get() == Some(fault)
+    which() == Some(fault)
 }
 
 /// The two numbers that a planted fault has exchanged in the order of the checks.
 pub fn exchanged() -> Option<(u8, u8)> {
-    match PLANTED.get()? {
+    match which()? {
         Fault::ShortBeforeBroken => Some((26, 10)),
         Fault::LongPayloadBeforeShort => Some((10, 9)),
         Fault::TooHighBeforeLongPayload => Some((9, 24)),

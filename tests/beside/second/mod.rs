@@ -11,6 +11,7 @@ pub mod log;
 mod message;
 mod panel;
 mod sending;
+mod tracing;
 
 pub use listing::listing;
 pub use message::{Barrier, Message};
@@ -37,13 +38,22 @@ pub const DEFAULT_LIFETIME: u16 = 7200;
 /// everything as a send with lifetime 1,200".
 pub const BEACON_LIFETIME: u16 = 1200;
 
+/// What the test for ready answers: whether the message is ready, and how many of its entries were
+/// visited.
+#[derive(Clone, Copy, Debug, PartialEq, Eq)]
+pub struct Test {
+    pub ready: bool,
+    pub visited: usize,
+}
+
 /// What a call answers: 0 or the number of its refusal, how many log records stand in the output,
-/// and how many bytes of a frame in the frame buffer.
+/// and how many bytes of a frame in the frame buffer. A trace answers its test for ready too.
 #[derive(Clone, Copy, Debug, PartialEq, Eq)]
 pub struct Answer {
     pub number: u8,
     pub count: usize,
     pub length: usize,
+    pub test: Option<Test>,
 }
 
 impl fmt::Display for Answer {
@@ -52,8 +62,17 @@ impl fmt::Display for Answer {
             number,
             count,
             length,
+            test,
         } = self;
-        write!(text, "number {number}, count {count}, length {length}")
+        match test {
+            Some(Test { ready, visited }) => {
+                write!(
+                    text,
+                    "trace: number {number}, ready {ready}, visited {visited}"
+                )
+            }
+            None => write!(text, "number {number}, count {count}, length {length}"),
+        }
     }
 }
 
@@ -63,6 +82,7 @@ fn accepted(count: usize, length: usize) -> Answer {
         number: 0,
         count,
         length,
+        test: None,
     }
 }
 
@@ -72,6 +92,7 @@ fn refused(number: u8) -> Answer {
         number,
         count: 0,
         length: 0,
+        test: None,
     }
 }
 

@@ -1,8 +1,10 @@
 //! The record of a panel, in the source's form: the causal barrier and what was delivered are maps,
 //! and a pending message has a barrier of its own, from which predecessors are struck off.
 
+use super::delivery::visit;
 use super::faults::{planted, Fault};
 use super::{Barrier, Message, PANELS, WAITING};
+use std::borrow::Cow;
 
 /// A message that waits, and its frame. The source strikes predecessors off as they are met or
 /// expire: `left` are those that are not struck off yet. Document 01 keeps the message as it came.
@@ -11,6 +13,13 @@ pub struct Pending {
     pub message: Message,
     pub left: Barrier,
     frame: Vec<u8>,
+}
+
+impl Pending {
+    /// Whether the message is ready, by the same test as one that arrives.
+    pub fn ready(&self) -> bool {
+        visit(&self.message.predecessors, &self.left).ready
+    }
 }
 
 /// A panel record.
@@ -141,13 +150,13 @@ impl Panel {
     }
 
     /// The frame of the waiting message at this place.
-    pub fn waiting(&self, place: usize) -> Vec<u8> {
+    pub fn waiting(&self, place: usize) -> Cow<'_, [u8]> {
         let pending = &self.pending[place];
         if planted(Fault::StruckEntriesLost) {
             let mut message = pending.message.clone();
             message.predecessors = pending.left.clone();
-            return message.frame();
+            return Cow::Owned(message.frame());
         }
-        pending.frame.clone()
+        Cow::Borrowed(&pending.frame)
     }
 }

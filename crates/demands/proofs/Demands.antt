@@ -1,8 +1,8 @@
 -- The demands, kept by the code. Assumes nothing.
 use mathlib.Core.Path.{_≡_, _∙_}
-use mathlib.Core.Bool.{true}
+use mathlib.Core.Bool.{true, false}
 use mathlib.Core.Logic.{_≢_}
-use mathlib.Core.List.{List, _∷_, map}
+use mathlib.Core.List.{List, [], _∷_, map}
 use Prim.Native.Nat.{ℕ, _≤_}
 use native.Mathlib.Omega.{arith}
 use lib.ListN.{length, take}
@@ -18,9 +18,9 @@ use Rattle.rules.specs.Calls.{newMessage}
 use Rattle.rules.specs.Refusals.{Listed, freshNumber}
 use Rattle.rules.specs.Results.{Call, send, receive, outputOf, bufferOf, effectOf, refused, defined}
 use Rattle.rules.specs.Visiting.{Counted, trace}
-use Rattle.rules.specs.Lists.{Lawful}
+use Rattle.rules.specs.Lists.{recordAt, Lawful}
 use Rattle.rules.specs.Demand3.{Demand3}
-use Rattle.rules.proofs.Theorems.{demand-3, number-listed, reading-listed, fresh-listed, trace-listed, refusal-unchanged, sent-reads}
+use Rattle.rules.proofs.Theorems.{demand-3, number-listed, reading-listed, fresh-listed, trace-listed, refusal-unchanged, sent-reads, trace-waits-reached}
 use Rattle.rules.proofs.Visiting.{visits-counted}
 use Rattle.rules.proofs.Tracing.{trace-number, trace-handed}
 use Rattle.exports.proofs.Fresh.{freshRecord-within}
@@ -53,12 +53,16 @@ pub record Demands (M : Type 1) : Type 2 where
   pub begins-by-value : BeginsByValue
   pub every-list : (list : List Run) → Follows list → Lawful (map madeOf list) → Demand3 (map madeOf list)
   -- Document 02, W-202: how many entries the test for ready visits. A trace shows the number of the receive of this frame on this record with an
-  -- output long enough; and where it shows a message to be ready, a receive that is not refused hands that message, before any other.
+  -- output long enough. Where it shows a message to be ready, a receive that is not refused hands that message, before any other; where it does
+  -- not, that receive hands nothing after any list of calls, and the message waits.
   pub visits-counted : (p : Panel) (m : Message) → length (m .entries) ≡ 64 → Counted p m
   pub trace-number : (p : Panel) (bytes output : List ℕ) → outputLength ≤ length output
       → trace p bytes .number ≡ defined p (receive bytes output) .number
   pub trace-handed : (p : Panel) (bytes output : List ℕ) → trace p bytes .ready ≡ true
       → (later : List Message) × (effectOf p (receive bytes output) .handed ≡ messageIn width bytes ∷ later)
+  pub trace-waits : (list : List Run) → Follows list → Lawful (map madeOf list) → (panel : ℕ) (bytes output : List ℕ)
+      → let p = recordAt panel (map madeOf list) in
+      trace p bytes .number ≡ 0 → trace p bytes .ready ≡ false → effectOf p (receive bytes output) .handed ≡ []
 
 -- The code keeps the demands.
 pub demands : {M : Type 1} → Demands M
@@ -79,4 +83,5 @@ demands =
       visits-counted = visits-counted;
       trace-number = trace-number;
       trace-handed = λ p bytes output ready. trace-handed p bytes ready;
+      trace-waits = λ list follows lawful panel bytes output. trace-waits-reached (map madeOf list) lawful (follows-promised list follows) panel bytes;
     }

@@ -13,7 +13,7 @@ use Rattle.numbers.specs.Numbers.{Bytes}
 use Rattle.numbers.proofs.Over.{length-over, take-over}
 use Rattle.frame.specs.Message.{Message}
 use Rattle.frame.specs.Frame.{frame}
-use Rattle.frame.specs.Reading.{message, checks, refusal, reading}
+use Rattle.frame.specs.Reading.{message, checks, refusal, messageIn, reading}
 use Rattle.frame.specs.Refusal.{firstOf}
 use Rattle.frame.proofs.FirstOf.{eachNumber, firstOf-each}
 use Rattle.frame.proofs.Theorems.{reading-frame}
@@ -22,7 +22,7 @@ use Rattle.rules.specs.Sizes.{width}
 use Rattle.rules.specs.Panel.{Name, Panel, ready, fresh}
 use Rattle.rules.specs.Handing.{logRecords}
 use Rattle.rules.specs.Settling.{settle}
-use Rattle.rules.specs.Calls.{newMessage}
+use Rattle.rules.specs.Calls.{newMessage, receiving}
 use Rattle.rules.specs.Refusals.{isRefusal, Listed, broken, freshNumber, freshRecord}
 use Rattle.rules.specs.Results.{Call, outputOf, bufferOf, checksOf, effectOf, frameOf, Result, refused, done, defined, Promised, send}
 use Rattle.rules.specs.Visiting.{traceChecks, trace}
@@ -34,7 +34,7 @@ use Rattle.rules.proofs.Handed.{effect-count}
 use Rattle.rules.proofs.Checks.{false-broken, send-passed, new-readable}
 use Rattle.rules.proofs.Cause.{named, known-deadline}
 use Rattle.rules.proofs.Results.{defined-both, defined-number, passed-valid, BytesOf, output-fits, buffer-fits, checks-listed, number-26}
-use Rattle.rules.proofs.Tracing.{trace-first, trace-checks-listed}
+use Rattle.rules.proofs.Tracing.{trace-first, trace-checks-listed, trace-waits}
 use Rattle.rules.proofs.Steps.{ListSound}
 use Rattle.rules.proofs.Reached.{list-sound, logged-whole, whole-logged, reached-valid}
 
@@ -92,6 +92,13 @@ pub never-26 : (list : List Made) → Lawful list → AllPromised list → (pane
 never-26 list lawful promised panel lt call =
     number-26 (recordAt panel list) call
     (false-broken (recordAt panel list) (reached-valid list (list-sound list lawful promised) panel lt))
+
+-- At a record reached by a list, a message that a trace shows not to be ready, and that is not refused, waits: its receive hands nothing.
+pub trace-waits-reached : (list : List Made) → Lawful list → AllPromised list → (panel : ℕ) (bytes : List ℕ)
+    → let p = recordAt panel list in
+    trace p bytes .number ≡ 0 → trace p bytes .ready ≡ false → receiving p (messageIn width bytes) .handed ≡ []
+trace-waits-reached list lawful promised panel bytes =
+    trace-waits (recordAt panel list) bytes (list-sound list lawful promised .sites panel .settled)
 
 -- ---- settling
 

@@ -1,24 +1,31 @@
 -- What a trace tells of the receive of the same frame on the same record. Assumes nothing.
 use Prim.Native.Nat.{ℕ, _≤_}
 use mathlib.Core.Path.{_≡_, refl, sym, ap, _∙_}
-use mathlib.Core.Bool.{true, _||_, true≢false}
-use mathlib.Core.List.{List, _∷_}
+use mathlib.Core.Bool.{true, false, _||_, true≢false}
+use mathlib.Core.Logic.{⊎-elim}
+use mathlib.Core.Option.{Option, none, some}
+use mathlib.Core.List.{List, [], _∷_, _++_}
 use lib.ListN.{length}
 use lib.Dec.{eqb}
 use borrow.Author.Tests.{le-ltb}
-use Rattle.frame.specs.Message.{Message}
+use Rattle.frame.specs.Message.{Message, messageOf}
 use Rattle.frame.specs.Refusal.{firstOf}
-use Rattle.frame.specs.Reading.{Reading, message, refused, checks, messageIn, reading}
-use Rattle.frame.proofs.FirstOf.{eachNumber}
-use Rattle.frame.proofs.Passed.{reading-message}
+use Rattle.frame.specs.Reading.{Reading, message, refused, checks, refusal, messageIn, reading}
+use Rattle.frame.proofs.FirstOf.{eachNumber, firstOf-append}
+use Rattle.frame.proofs.Passed.{reading-message, reading-zero}
 use Rattle.rules.specs.Sizes.{width, outputLength}
 use Rattle.rules.specs.Panel.{Panel, ready}
 use Rattle.rules.specs.Handing.{hand}
-use Rattle.rules.specs.Settling.{settle}
+use Rattle.rules.specs.Settling.{choice, withWaiting, Settled, goOn, settle}
 use Rattle.rules.specs.Calls.{handAndSettle, receiving}
-use Rattle.rules.specs.Refusals.{isRefusal, messageChecks, receiveChecks}
+use Rattle.rules.specs.Refusals.{isRefusal, broken, messageChecks, receiveChecks}
 use Rattle.rules.specs.Results.{receive, defined}
 use Rattle.rules.specs.Visiting.{traceChecks, shown, trace}
+use Rattle.rules.specs.Lists.{_isIn_}
+use Rattle.rules.proofs.Ready.{ready-withWaiting}
+use Rattle.rules.proofs.WaitingList.{getD-isIn, isIn-end}
+use Rattle.rules.proofs.Choice.{choice-some}
+use Rattle.rules.proofs.Settling.{NoneReady, settle-step}
 use Rattle.rules.proofs.Results.{defined-number}
 
 -- ---- the number
@@ -65,3 +72,39 @@ trace-handed p bytes e =
     let (m, read, is) = shown-ready p (firstOf (traceChecks p bytes)) (reading width bytes) e in
     let same : messageIn width bytes ≡ m = reading-message width bytes m read .1 in
     (settle (hand p (messageIn width bytes)) .handed, receiving-ready p (messageIn width bytes) (ap (ready p) same ∙ is))
+
+-- ---- not ready
+
+-- the bytes read, where no check applies
+trace-reads : (p : Panel) (bytes : List ℕ) → trace p bytes .number ≡ 0 → refusal width bytes ≡ 0
+unfolding traceChecks checks eachNumber
+trace-reads p bytes e =
+    let (front, behind) = firstOf-append ((broken p, 26) ∷ checks width bytes) (messageChecks p (messageIn width bytes)) refl (sym (trace-first p bytes) ∙ e) in
+    firstOf-append ((broken p, 26) ∷ []) (checks width bytes) refl front .1
+
+-- settling hands nothing where nothing that waits is ready
+settle-still : (p : Panel) → NoneReady p → settle p .handed ≡ []
+unfolding goOn
+settle-still p unready = ap (λ (s : Settled). s .handed) (settle-step p) ∙ go (choice p (p .waiting)) refl
+  where
+    go : (o : Option ℕ) → choice p (p .waiting) ≡ o → goOn settle p o .handed ≡ []
+    go none e = refl
+    go (some place) e =
+        let (lt, is) = choice-some p (p .waiting) (messageOf 0 0 [] []) place e in
+        absurd (true≢false (sym is ∙ unready _ (getD-isIn place (p .waiting) (messageOf 0 0 [] []) lt)))
+
+receiving-unready : (p : Panel) (m : Message) → NoneReady p → ready p m ≡ false → receiving p m .handed ≡ []
+unfolding receiving
+receiving-unready p m unready e = rw e (settle-still (withWaiting p (p .waiting ++ (m ∷ []))) none)
+  where
+    none : NoneReady (withWaiting p (p .waiting ++ (m ∷ [])))
+    none w i =
+        ready-withWaiting p (p .waiting ++ (m ∷ [])) w
+        ∙ ⊎-elim (λ (old : w isIn p .waiting). unready w old) (λ (q : w ≡ m). ap (ready p) q ∙ e) (isIn-end (p .waiting) i)
+
+-- Not ready, and no refusal: where nothing that waits is ready, the receive hands nothing, and the message waits.
+pub trace-waits : (p : Panel) (bytes : List ℕ) → NoneReady p → trace p bytes .number ≡ 0 → trace p bytes .ready ≡ false
+    → receiving p (messageIn width bytes) .handed ≡ []
+unfolding trace
+trace-waits p bytes unready passed e =
+    receiving-unready p (messageIn width bytes) unready (rw (reading-zero width bytes (trace-reads p bytes passed)) at e)

@@ -26,7 +26,7 @@ fn unread_number(broken: bool, number: u8) -> u8
     ensures { λ r. ⌜ r ≡ cond broken 26 number ⌝ }
 {
     if broken {
-        return 26;
+        return 26; // the record is broken
     }
     number
 }

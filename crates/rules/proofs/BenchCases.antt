@@ -9,7 +9,7 @@ use Rattle.frame.specs.Frame.{fields, frame}
 use Rattle.frame.specs.Refusal.{firstOf}
 use Rattle.frame.specs.Reading.{eachEarlier, checks, messageIn, reading}
 use Rattle.frame.specs.Readable.{eachBelow, readable}
-use Rattle.rules.specs.Panel.{none64, lapsed, met, eachPanel, ready}
+use Rattle.rules.specs.Panel.{none64, fresh, lapsed, met, eachPanel, ready}
 use Rattle.rules.specs.Handing.{raise, hand, logRecord, logRecords}
 use Rattle.rules.specs.Settling.{sooner, chosen, choice, without, goOn, settleIn, settle}
 use Rattle.rules.specs.Calls.{handAndSettle, sendDeadline, newMessage, sending, receiving, alive, clocking}
@@ -32,7 +32,7 @@ unfolding framesOpened rulesOpened handAndSettle sendDeadline newMessage sending
 callsOpened = tt
 
 tracesOpened : Unit {0}
-unfolding callsOpened reading entriesFrom upToUnmet traceChecks trace frame1 queue caseTrace
+unfolding callsOpened fresh reading entriesFrom upToUnmet traceChecks trace frame1 frame2 queue caseTrace
 tracesOpened = tt
 
 casesOpened : Unit {0}

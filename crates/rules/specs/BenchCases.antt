@@ -7,7 +7,7 @@ use mathlib.Core.Bool.{Bool, true, false}
 use mathlib.Core.List.{List, [], _∷_, _++_, map, flatten}
 use lib.ListN.{length, take, drop, set, replicate}
 use Rattle.frame.specs.Message.{Message, messageOf}
-use Rattle.rules.specs.Panel.{Panel, none64}
+use Rattle.rules.specs.Panel.{Panel, none64, fresh}
 use Rattle.rules.specs.Calls.{beaconLifetime}
 use Rattle.rules.specs.Results.{Call, send, receive, clock, Result, defined}
 use Rattle.rules.specs.Visiting.{Trace, trace}
@@ -292,7 +292,7 @@ caseUnreached =
     ∷ logged (0 ∷ 0x00 ∷ 0x00 ∷ 0x02 ∷ 0x58 ∷ 0 ∷ []) ∷ logged (0 ∷ 0x00 ∷ 0x00 ∷ 0x02 ∷ 0x58 ∷ 0 ∷ []) ∷ []))
     ∷ []
 
--- ---- document 02, W-202: traces. A message of panel 5 (or 6) has entries 800 of panels 3, 7 and 9: these bits of its mask are set
+-- ---- document 02, W-202: traces, of the frames of cases 1 and 2, and of a message of panel 5 (or 6) with entries 800 of panels 3, 7 and 9
 
 -- shown at that record: the number, whether it is ready, how many entries were visited
 abbrev pub look : Panel → List ℕ → ℕ → Bool → ℕ → Look
@@ -306,7 +306,8 @@ caseTrace =
     let of6 = frameFrom (0x06 ∷ []) (drop 6 after) in
     let had : List (ℕ × ℕ) → Panel = λ marks. panelOf 0 0 900 (of marks) none64 [] in
     let all : List (ℕ × ℕ) = (3, 800) ∷ (7, 800) ∷ (9, 800) ∷ [] in
-    look (had []) frame1 0 true 0  -- no bit is set
+    look (fresh 0) frame1 0 true 0  -- no bit is set
+    ∷ look (fresh 0) frame2 0 false 1
     ∷ look (had []) after 0 false 1
     ∷ look (had ((3, 800) ∷ [])) after 0 false 2  -- the empty bits between are not visited, nor is 9 behind
     ∷ look (had ((7, 800) ∷ (9, 800) ∷ [])) after 0 false 1  -- lowest first

@@ -74,13 +74,14 @@ pub record Counted (p : Panel) (m : Message) : Type 0 where
 unfoldable pub traceChecks : Panel → List ℕ → List (Bool × ℕ)
 traceChecks p bytes = (broken p, 26) ∷ (checks width bytes ++ messageChecks p (messageIn width bytes))
 
--- what is shown: the number that a receive would be refused with, or 0; whether the message is ready; how many entries were visited
+-- what is shown: the number that a receive with an output long enough would be refused with, or 0; whether the message is ready; how many
+-- entries were visited
 pub record Trace : Type 0 where
   pub number : ℕ
   pub ready : Bool
   pub visited : ℕ
 
--- of bytes that read as no message, not ready and no visits
+-- Of a message both are shown, whatever the number is. Bytes that read as no message are not ready, and have no visits.
 abbrev pub shown : Panel → ℕ → Reading → Trace
 shown p number (message m) = record { number = number; ready = ready p m; visited = visits p m }
 shown p number (refused n) = record { number = number; ready = false; visited = 0 }

@@ -11,9 +11,9 @@ ghost use Rattle.rules.specs.Visiting.{trace};
 ghost use Rattle.parts.specs.Record.{parts, recordOf};
 ghost use Rattle.tracing.specs.Shown.{shownIn};
 
-// What a receive of a frame would do: the number that it would be refused with, or 0; whether the
-// message is ready; and how many of its entries were visited. Bytes that read as no message are not
-// ready, and have no visits.
+// What is shown of a frame: the number that a receive of it with an output long enough would be refused
+// with, or 0; whether the message is ready, and how many of its entries were visited, whatever the
+// number is. Bytes that read as no message are not ready, and have no visits.
 #[repr(C)]
 pub struct Trace {
     pub visited: usize,

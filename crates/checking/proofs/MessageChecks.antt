@@ -1,5 +1,5 @@
 -- The checks of a message that was read, one after the other. Assumes nothing.
-use Prim.Native.Nat.{ℕ, _≤_, _<_}
+use Prim.Native.Nat.{ℕ, _+_, _≤_, _<_}
 use native.Mathlib.Omega.{arith}
 use mathlib.Core.Path.{_≡_, refl, sym, ap, _∙_}
 use mathlib.Core.Bool.{Bool, true, false, not, _&&_}
@@ -11,7 +11,7 @@ use Rattle.frame.specs.Message.{Message}
 use Rattle.frame.specs.Refusal.{firstOf}
 use Rattle.frame.proofs.FirstOf.{Past, pass, stop}
 use Rattle.rules.specs.Panel.{Panel, lapsed, met, ready}
-use Rattle.rules.specs.Refusals.{isWaiting, messageChecks}
+use Rattle.rules.specs.Refusals.{isWaiting, farthestAhead, tooFarAhead, messageChecks}
 use Rattle.slots.proofs.Held.{length-firstSlots}
 use Rattle.choosing.specs.Choice.{asking}
 use Rattle.parts.specs.Record.{parts, recordOf}
@@ -21,6 +21,12 @@ pub ready-asking : (p : Panel) (m : Message) → ready (asking (p .marks) (p .ti
 unfolding ready met lapsed
 ready-asking p m = refl
 
+-- and the checks for neither high nor barrier
+pub checks-asking : (own time high count : ℕ) (marks barrier slots : List ℕ) (m : Message)
+    → messageChecks (recordOf (parts own time 0 count marks [] slots)) m ≡ messageChecks (recordOf (parts own time high count marks barrier slots)) m
+unfolding messageChecks tooFarAhead lapsed met ready
+checks-asking own time high count marks barrier slots m = refl
+
 and-false : (a b : Bool) → b ≡ false → (a && b) ≡ false
 and-false true b e = e
 and-false false b e = refl
@@ -29,58 +35,73 @@ module _ (own time : ℕ) (marks slots : List ℕ) (count : ℕ) (m : Message) w
   abbrev panel : Panel
   panel = recordOf (parts own time 0 count marks [] slots)
 
-  abbrev table : List (Bool × ℕ)
+  abbrev pub table : List (Bool × ℕ)
   table = messageChecks panel m
 
   abbrev mark : ℕ
   mark = getD marks (m .source) 0
 
+  -- ---- 20
+
   pub number-own : m .source ≡ own → 20 ≡ firstOf table
   unfolding messageChecks
   number-own e = stop table 0 refl (eq-eqb (m .source) own e)
 
-  module _ (other : m .source ≡ own → ⊥) where
-    past1 : Past table 1
+  pub past-own : (m .source ≡ own → ⊥) → Past table 1
+  unfolding messageChecks
+  past-own other = pass table 0 refl (ne-eqb (m .source) own other)
+
+  -- ---- 21
+
+  pub number-lapsed : Past table 1 → m .deadline < time → 21 ≡ firstOf table
+  unfolding messageChecks lapsed
+  number-lapsed past lt = stop table 1 past (lt-ltb (m .deadline) time lt)
+
+  pub past-lapsed : Past table 1 → time ≤ m .deadline → Past table 2
+  unfolding messageChecks lapsed
+  past-lapsed past live = pass table 1 past (le-ltb (m .deadline) time live)
+
+  -- ---- 32
+
+  pub number-far : Past table 2 → time + farthestAhead < m .deadline → 32 ≡ firstOf table
+  unfolding messageChecks tooFarAhead
+  number-far past lt = stop table 2 past (lt-ltb (time + farthestAhead) (m .deadline) lt)
+
+  pub past-far : Past table 2 → m .deadline ≤ time + farthestAhead → Past table 3
+  unfolding messageChecks tooFarAhead
+  past-far past near = pass table 2 past (le-ltb (time + farthestAhead) (m .deadline) near)
+
+  -- ---- 22, in two ways
+
+  pub number-reached : Past table 3 → m .deadline ≤ mark → 22 ≡ firstOf table
+  unfolding messageChecks
+  number-reached past le = stop table 3 past (rw (le-leb (m .deadline) mark le))
+
+  pub number-waiting : Past table 3 → mark < m .deadline → isWaiting m (panel .waiting) ≡ true → 22 ≡ firstOf table
+  unfolding messageChecks
+  number-waiting past above e = stop table 3 past (rw (lt-leb (m .deadline) mark above) e)
+
+  pub past-had : Past table 3 → mark < m .deadline → isWaiting m (panel .waiting) ≡ false → Past table 4
+  unfolding messageChecks
+  past-had past above new = pass table 3 past (rw (lt-leb (m .deadline) mark above) new)
+
+  -- ---- 23, or none
+
+  module _ (past : Past table 4) where
+    pub number-room : count < 32 → 0 ≡ firstOf table
+    unfolding messageChecks firstOf
+    number-room lt =
+        let room : length (panel .waiting) < 32 = omega (arith, length-firstSlots slots count) in
+        sym (pass table 4 past (rw (lt-leb 32 (length (panel .waiting)) room)))
+
+    pub number-ready : ready (asking marks time) m ≡ true → 0 ≡ firstOf table
+    unfolding messageChecks firstOf
+    number-ready e =
+        let unready = ap not (sym (ready-asking panel m) ∙ e) in
+        sym (pass table 4 past (and-false (leb 32 (length (panel .waiting))) (not (ready panel m)) unready))
+
+    pub number-full : 32 ≤ count → ready (asking marks time) m ≡ false → 23 ≡ firstOf table
     unfolding messageChecks
-    past1 = pass table 0 refl (ne-eqb (m .source) own other)
-
-    pub number-lapsed : m .deadline < time → 21 ≡ firstOf table
-    unfolding messageChecks lapsed
-    number-lapsed lt = stop table 1 past1 (lt-ltb (m .deadline) time lt)
-
-    module _ (live : time ≤ m .deadline) where
-      past2 : Past table 2
-      unfolding messageChecks lapsed
-      past2 = pass table 1 past1 (le-ltb (m .deadline) time live)
-
-      pub number-reached : m .deadline ≤ mark → 22 ≡ firstOf table
-      unfolding messageChecks
-      number-reached le = stop table 2 past2 (rw (le-leb (m .deadline) mark le))
-
-      module _ (above : mark < m .deadline) where
-        pub number-waiting : isWaiting m (panel .waiting) ≡ true → 22 ≡ firstOf table
-        unfolding messageChecks
-        number-waiting e = stop table 2 past2 (rw (lt-leb (m .deadline) mark above) e)
-
-        module _ (new : isWaiting m (panel .waiting) ≡ false) where
-          past3 : Past table 3
-          unfolding messageChecks
-          past3 = pass table 2 past2 (rw (lt-leb (m .deadline) mark above) new)
-
-          pub number-room : count < 32 → 0 ≡ firstOf table
-          unfolding messageChecks firstOf
-          number-room lt =
-              let room : length (panel .waiting) < 32 = omega (arith, length-firstSlots slots count) in
-              sym (pass table 3 past3 (rw (lt-leb 32 (length (panel .waiting)) room)))
-
-          pub number-ready : ready (asking marks time) m ≡ true → 0 ≡ firstOf table
-          unfolding messageChecks firstOf
-          number-ready e =
-              let unready = ap not (sym (ready-asking panel m) ∙ e) in
-              sym (pass table 3 past3 (and-false (leb 32 (length (panel .waiting))) (not (ready panel m)) unready))
-
-          pub number-full : 32 ≤ count → ready (asking marks time) m ≡ false → 23 ≡ firstOf table
-          unfolding messageChecks
-          number-full le e =
-              let full : 32 ≤ length (panel .waiting) = omega (arith, length-firstSlots slots count) in
-              stop table 3 past3 (rw (le-leb 32 (length (panel .waiting)) full) (ap not (sym (ready-asking panel m) ∙ e)))
+    number-full le e =
+        let full : 32 ≤ length (panel .waiting) = omega (arith, length-firstSlots slots count) in
+        stop table 4 past (rw (le-leb 32 (length (panel .waiting)) full) (ap not (sym (ready-asking panel m) ∙ e)))

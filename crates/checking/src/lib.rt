@@ -28,7 +28,11 @@ fn frame_number(broken: bool, output: usize, frame: &[u8]) -> u8
     frame_check(frame)
 }
 
-// The number of the first check that turns down a message that was read, or 0: 20, 21, 22, 23.
+// Document 02, W-205: "A received deadline above time + 1,209,600 (14 days) is now refused."
+const FARTHEST_AHEAD: u32 = 1209600;
+
+// The number of the first check that turns down a message that was read, or 0: 20, 21, 32, 22, 23. That of 32
+// takes the time from the deadline, which is not below it past 21: a sum could pass 32 bits.
 pub fn message_number<'a, 'b>(
     own: u8,
     time: u32,
@@ -50,6 +54,9 @@ pub fn message_number<'a, 'b>(
     if due < time {
         return 21; // it has lapsed
     }
+    if FARTHEST_AHEAD < due - time {
+        return 32; // its deadline is too far ahead
+    }
     if due <= mark {
         return 22; // its deadline is at most its source's mark
     }
@@ -66,7 +73,7 @@ pub fn message_number<'a, 'b>(
     23 // 32 are waiting and it is not ready
 }
 
-// The number of the first check that turns down a frame, or 0: 26, 10, 1 to 8, 20, 21, 22, 23.
+// The number of the first check that turns down a frame, or 0: 26, 10, 1 to 8, 20, 21, 32, 22, 23.
 pub fn receive_number<'a, 'b>(
     own: u8,
     time: u32,

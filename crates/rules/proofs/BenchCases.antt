@@ -13,7 +13,7 @@ use Rattle.rules.specs.Panel.{none64, fresh, lapsed, met, eachPanel, rea
 use Rattle.rules.specs.Handing.{raise, hand, logRecord, logRecords}
 use Rattle.rules.specs.Settling.{sooner, chosen, choice, without, goOn, settleIn, settle}
 use Rattle.rules.specs.Calls.{handAndSettle, sendDeadline, newMessage, sending, receiving, alive, clocking}
-use Rattle.rules.specs.Refusals.{eachReadable, broken, isWaiting, sendChecks, messageChecks, receiveChecks, clockChecks}
+use Rattle.rules.specs.Refusals.{eachReadable, broken, isWaiting, tooFarAhead, sendChecks, messageChecks, receiveChecks, clockChecks}
 use Rattle.rules.specs.Results.{refused, done, unless, defined}
 use Rattle.rules.specs.Visiting.{entriesFrom, upToUnmet, traceChecks, trace}
 use Rattle.rules.specs.BenchCases.{finished, _and_, EachHolds, EachShown, frame1, case1, frame2, case2, case3, case4, case5, case6, case7, case8, queue, case9, case10, case11, caseBeacon, caseOrder, caseUnreached, caseTrace, benchCases}
@@ -28,7 +28,7 @@ unfolding none64 lapsed met eachPanel ready raise hand logRecord logRecords soon
 rulesOpened = tt
 
 unfoldable pub callsOpened : Unit {0}
-unfolding framesOpened rulesOpened handAndSettle sendDeadline newMessage sending receiving alive clocking eachReadable broken isWaiting sendChecks messageChecks receiveChecks clockChecks refused done unless defined
+unfolding framesOpened rulesOpened handAndSettle sendDeadline newMessage sending receiving alive clocking eachReadable broken isWaiting tooFarAhead sendChecks messageChecks receiveChecks clockChecks refused done unless defined
 callsOpened = tt
 
 tracesOpened : Unit {0}

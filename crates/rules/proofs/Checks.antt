@@ -20,7 +20,7 @@ use Rattle.frame.proofs.Readable.{Readable, true-readable, readable-true}
 use Rattle.rules.specs.Sizes.{width, lastDeadline, outputLength, bufferLength}
 use Rattle.rules.specs.Panel.{nameOf, Panel, ready}
 use Rattle.rules.specs.Calls.{sendDeadline, newMessage}
-use Rattle.rules.specs.Refusals.{someAbove, eachReadable, broken, isWaiting, sendChecks, messageChecks, receiveChecks, clockChecks}
+use Rattle.rules.specs.Refusals.{someAbove, eachReadable, broken, isWaiting, farthestAhead, tooFarAhead, sendChecks, messageChecks, receiveChecks, clockChecks}
 use Rattle.rules.specs.Lists.{_isIn_}
 use Rattle.rules.proofs.Booleans.{and-either, or-neither, not-false}
 use Rattle.rules.proofs.Ready.{limit, lapsed-false}
@@ -123,12 +123,13 @@ pub record ReceivePassed (p : Panel) (bytes output : List ℕ) (m : Message) : T
   pub read : refusal width bytes ≡ 0
   pub foreign : m .source ≢ p .own
   pub alive : limit p ≤ m .deadline
+  pub near : m .deadline ≤ p .time + farthestAhead
   pub above-mark : getD (p .marks) (m .source) 0 < m .deadline
   pub not-waiting : (w : Message) → w isIn p .waiting → nameOf w ≢ nameOf m
   pub room : (length (p .waiting) < 32) ⊎ (ready p m ≡ true)
 
 pub receive-passed : (p : Panel) (bytes output : List ℕ) → firstOf (receiveChecks p bytes output) ≡ 0 → ReceivePassed p bytes output (messageIn width bytes)
-unfolding receiveChecks messageChecks eachNumber checks
+unfolding receiveChecks messageChecks tooFarAhead eachNumber checks
 receive-passed p bytes output e =
     let m = messageIn width bytes in
     let start : List (Bool × ℕ) = (broken p, 26) ∷ (ltb (length output) outputLength, 10) ∷ [] in
@@ -136,17 +137,18 @@ receive-passed p bytes output e =
     let none = applies-none start refl begun in
     let (read, rest) = firstOf-append (checks width bytes) (messageChecks p m) refl behind in
     let passed = applies-none (messageChecks p m) refl rest in
-    let (above, new) = or-neither (leb (m .deadline) (getD (p .marks) (m .source) 0)) (isWaiting m (p .waiting)) (passed 2) in
+    let (above, new) = or-neither (leb (m .deadline) (getD (p .marks) (m .source) 0)) (isWaiting m (p .waiting)) (passed 3) in
     record {
       valid = broken-false p (none 0);
       output-room = ltb-false (length output) outputLength (none 1);
       read = read;
       foreign = eqb-false (m .source) (p .own) (passed 0);
       alive = lapsed-false p (m .deadline) (passed 1);
+      near = ltb-false (p .time + farthestAhead) (m .deadline) (passed 2);
       above-mark = leb-false (m .deadline) (getD (p .marks) (m .source) 0) above;
       not-waiting = isWaiting-false m (p .waiting) new;
       room = ⊎-elim (λ f. inl (leb-false 32 (length (p .waiting)) f)) (λ f. inr (not-false (ready p m) f))
-          (and-either (leb 32 (length (p .waiting))) (not (ready p m)) (passed 3));
+          (and-either (leb 32 (length (p .waiting))) (not (ready p m)) (passed 4));
     }
 
 -- ---- clock

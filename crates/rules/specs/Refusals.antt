@@ -1,4 +1,4 @@
--- Document 01, "Turned down because of the input", "Turned down because of the state", and their order.
+-- Document 01, "Turned down because of the input", "Turned down because of the state", and their order; document 02, W-205.
 use Prim.Native.Nat.{ℕ, _+_}
 use mathlib.Core.Path.{_≡_}
 use mathlib.Core.Logic.{_⊎_}
@@ -41,6 +41,16 @@ unfoldable pub isWaiting : Message → List Message → Bool
 isWaiting m [] = false
 isWaiting m (w ∷ ws) = eqb (m .source) (w .source) && eqb (m .deadline) (w .deadline) || isWaiting m ws
 
+-- ---- 32
+
+-- Document 02, W-205: "A received deadline above time + 1,209,600 (14 days) is now refused."
+abbrev pub farthestAhead : ℕ
+farthestAhead = 1209600
+
+-- Too far ahead: deadline above that sum, taken without wrapping. A deadline equal to the sum is not.
+unfoldable pub tooFarAhead : Panel → ℕ → Bool
+tooFarAhead p deadline = ltb (p .time + farthestAhead) deadline
+
 -- ---- 11
 
 -- the number for a panel number above 63 asked of a fresh panel; 0 for any other
@@ -62,16 +72,17 @@ sendChecks p payload lifetime output buffer =
     ∷ (ltb lastDeadline (sendDeadline p lifetime), 24)  -- the deadline of a send would pass 4,294,967,295
     ∷ []
 
--- those of a message that was read: 20, 21, 22, 23
+-- those of a message that was read: 20, 21, 32, 22, 23
 unfoldable pub messageChecks : Panel → Message → List (Bool × ℕ)
 messageChecks p m =
     (eqb (m .source) (p .own), 20)  -- the frame's source is the own number
     ∷ (lapsed p (m .deadline), 21)  -- the message has lapsed
+    ∷ (tooFarAhead p (m .deadline), 32)  -- its deadline is too far ahead
     ∷ (leb (m .deadline) (getD (p .marks) (m .source) 0) || isWaiting m (p .waiting), 22)  -- at most its source's mark, or waiting already
     ∷ (leb 32 (length (p .waiting)) && not (ready p m), 23)  -- 32 are waiting and this one is not ready
     ∷ []
 
--- Receive: 26, 10, 1 to 8, 20, 21, 22, 23
+-- Receive: 26, 10, 1 to 8, 20, 21, 32, 22, 23
 unfoldable pub receiveChecks : Panel → List ℕ → List ℕ → List (Bool × ℕ)
 receiveChecks p bytes output =
     (broken p, 26) ∷ (ltb (length output) outputLength, 10) ∷ (checks width bytes ++ messageChecks p (messageIn width bytes))
@@ -84,9 +95,9 @@ clockChecks p time output =
     ∷ (ltb time (p .time), 25)  -- the clock reading is below the panel's time
     ∷ []
 
--- the numbers of the two lists: 1 to 11, and 20 to 26
+-- the numbers of document 01's two lists, 1 to 11 and 20 to 26, and 32 of document 02
 abbrev pub isRefusal : ℕ → Bool
-isRefusal n = leb 1 n && leb n 11 || leb 20 n && leb n 26
+isRefusal n = leb 1 n && leb n 11 || leb 20 n && leb n 26 || eqb n 32
 
 -- what a call may answer: 0, or one of these numbers
 abbrev pub Listed : ℕ → Type 0

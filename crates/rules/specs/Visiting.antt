@@ -70,7 +70,7 @@ pub record Counted (p : Panel) (m : Message) : Type 0 where
 
 -- ---- a trace
 
--- the checks of a receive but that of its output: 26, 1 to 8, 20, 21, 22, 23
+-- the checks of a receive but that of its output: 26, 1 to 8, 20, 21, 32, 22, 23
 unfoldable pub traceChecks : Panel → List ℕ → List (Bool × ℕ)
 traceChecks p bytes = (broken p, 26) ∷ (checks width bytes ++ messageChecks p (messageIn width bytes))
 

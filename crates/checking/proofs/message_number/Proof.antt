@@ -1,6 +1,7 @@
 -- `checking::message_number` meets its contract: at each `return` the checks before it passed, and its own applies or none is left. Assumes nothing.
 use mathlib.Core.Path.{_≡_, sym, ap, _∙_}
-use mathlib.Core.Bool.{false}
+use mathlib.Core.Bool.{Bool}
+use mathlib.Core.List.{List}
 use Prim.Native.Nat.{ℕ, _≤_, _<_}
 use native.Mathlib.Omega.{arith}
 use borrow.Author.Needs.{needs}
@@ -8,10 +9,9 @@ use denote.Ref.{now}
 use lib.ListN.{getD}
 use Rattle.frame.specs.Message.{Message}
 use Rattle.frame.specs.Reading.{messageIn}
+use Rattle.frame.proofs.FirstOf.{Past}
 use Rattle.frame.proofs.Passed.{zero-passed}
-use Rattle.rules.specs.Refusals.{isWaiting}
-use Rattle.slots.specs.Slots.{held, firstSlots}
-use Rattle.checking.proofs.MessageChecks.{number-own, number-lapsed, number-reached, number-waiting, number-room, number-ready, number-full}
+use Rattle.checking.proofs.MessageChecks.{table, number-own, past-own, number-lapsed, past-lapsed, number-far, past-far, number-reached, number-waiting, past-had, number-room, number-ready, number-full}
 use Rattle.checking.proofs.message_number.Statement.{statement}
 use Rattle.checking.proofs.message_number.Tie as tie
 
@@ -33,19 +33,29 @@ mark : (c : tie.After-deadline) → getD (now (start c .args .marks)) (c .before
     ≡ getD (now (start c .args .marks)) (m c .source) 0
 mark c = ap (λ (s : ℕ). getD (now (start c .args .marks)) s 0) (from c)
 
--- past 20, 21, and the two ways of 22
-other : (c : tie.Else1) → m (c .before .before) .source ≡ start (c .before .before) .args .own → ⊥
-other c e = c .if1 .left (from (c .before .before) ∙ e)
+-- its checks, and which of them are passed: 20, 21, 32, 22
+abbrev checksOf : tie.After-deadline → List (Bool × ℕ)
+checksOf c = let a = start c .args in table (a .own) (a .time) (now (a .marks)) (now (a .slots)) (a .count) (m c)
 
-live : (c : tie.Else2) → start (c .before .before .before) .args .time ≤ m (c .before .before .before) .deadline
+past1 : (c : tie.Else1) → Past (checksOf (c .before .before)) 1
+past1 c = past-own _ _ _ _ _ _ (λ e. c .if1 .left (from (c .before .before) ∙ e))
+
+live : (c : tie.Else2) → let d = c .before .before .before in start d .args .time ≤ m d .deadline
 live c = omega (arith, due (c .before .before .before))
 
-above : (c : tie.Else3) → let d = c .before .before .before .before in getD (now (start d .args .marks)) (m d .source) 0 < m d .deadline
-above c = let d = c .before .before .before .before in omega (arith, c .if3 .left, due d, mark d)
+past2 : (c : tie.Else2) → Past (checksOf (c .before .before .before)) 2
+past2 c = past-lapsed _ _ _ _ _ _ (past1 (c .before)) (live c)
 
-new : (c : tie.Else4) → let d = c .before .before .before .before .before .before in
-    isWaiting (m d) (held (now (start d .args .slots)) (firstSlots (start d .args .count))) ≡ false
-new c = sym (c .before .is-waiting .ensures) ∙ c .if4 .left
+past3 : (c : tie.Else3) → Past (checksOf (c .before .before .before .before)) 3
+past3 c = past-far _ _ _ _ _ _ (past2 (c .before)) (omega (arith, c .if3 .left, due (c .before .before .before .before), live (c .before)))
+
+above : (c : tie.Else4) → let d = c .before .before .before .before .before in getD (now (start d .args .marks)) (m d .source) 0 < m d .deadline
+above c = let d = c .before .before .before .before .before in omega (arith, c .if4 .left, due d, mark d)
+
+past4 : (c : tie.Else5) → Past (checksOf (c .before .before .before .before .before .before .before)) 4
+past4 c =
+    let above-at = c .before .before in
+    past-had _ _ _ _ _ _ (past3 (above-at .before)) (above above-at) (sym (c .before .is-waiting .ensures) ∙ c .if5 .left)
 
 source-requires : tie.Need-source-requires
 source-requires c κs = search needs
@@ -68,49 +78,39 @@ returns : tie.Need-returns
 returns c = number-own _ _ _ _ _ _ (omega (arith, from (c .before .before), c .if1 .taken))
 
 returns-2 : tie.Need-returns-2
-returns-2 c = number-lapsed _ _ _ _ _ _ (other (c .before)) (omega (arith, due (c .before .before .before), c .if2 .taken))
+returns-2 c = number-lapsed _ _ _ _ _ _ (past1 (c .before)) (omega (arith, due (c .before .before .before), c .if2 .taken))
 
 returns-3 : tie.Need-returns-3
 returns-3 c =
-    let live-at = c .before in
-    let d = live-at .before .before .before in
-    number-reached _ _ _ _ _ _ (other (live-at .before)) (live live-at) (omega (arith, c .if3 .taken, due d, mark d))
+    number-far _ _ _ _ _ _ (past2 (c .before)) (omega (arith, c .if3 .taken, due (c .before .before .before .before), live (c .before)))
+
+returns-4 : tie.Need-returns-4
+returns-4 c =
+    let d = c .before .before .before .before .before in
+    number-reached _ _ _ _ _ _ (past3 (c .before)) (omega (arith, c .if4 .taken, due d, mark d))
 
 is-waiting-requires : tie.Need-is-waiting-requires
 is-waiting-requires c κs = search needs
 
-returns-4 : tie.Need-returns-4
-returns-4 c =
-    let above-at = c .before .before in
-    let live-at = above-at .before in
-    number-waiting _ _ _ _ _ _ (other (live-at .before)) (live live-at) (above above-at) (sym (c .before .is-waiting .ensures) ∙ c .if4 .taken)
-
 returns-5 : tie.Need-returns-5
 returns-5 c =
-    let new-at = c .before in
-    let above-at = new-at .before .before in
-    let live-at = above-at .before in
-    number-room _ _ _ _ _ _ (other (live-at .before)) (live live-at) (above above-at) (new new-at) (omega arith)
+    let above-at = c .before .before in
+    number-waiting _ _ _ _ _ _ (past3 (above-at .before)) (above above-at) (sym (c .before .is-waiting .ensures) ∙ c .if5 .taken)
+
+returns-6 : tie.Need-returns-6
+returns-6 c = number-room _ _ _ _ _ _ (past4 (c .before)) (omega arith)
 
 ready-requires : tie.Need-ready-requires
 ready-requires c κs = search needs
 
-returns-6 : tie.Need-returns-6
-returns-6 c =
-    let tested = c .before in
-    let new-at = tested .before .before in
-    let above-at = new-at .before .before in
-    let live-at = above-at .before in
-    number-ready _ _ _ _ _ _ (other (live-at .before)) (live live-at) (above above-at) (new new-at) (sym (tested .ready .ensures .0) ∙ c .if6 .taken)
-
 returns-7 : tie.Need-returns-7
-returns-7 c =
+returns-7 c = let tested = c .before in number-ready _ _ _ _ _ _ (past4 (tested .before .before)) (sym (tested .ready .ensures .0) ∙ c .if7 .taken)
+
+returns-8 : tie.Need-returns-8
+returns-8 c =
     let tested = c .before in
-    let new-at = tested .before .before in
-    let above-at = new-at .before .before in
-    let live-at = above-at .before in
-    number-full _ _ _ _ _ _ (other (live-at .before)) (live live-at) (above above-at) (new new-at) (omega (arith, tested .before .if5 .left))
-    (sym (tested .ready .ensures .0) ∙ c .if6 .left)
+    number-full _ _ _ _ _ _ (past4 (tested .before .before)) (omega (arith, tested .before .if6 .left))
+    (sym (tested .ready .ensures .0) ∙ c .if7 .left)
 
 pub message-number-spec : {M : Type 1} → statement M
 message-number-spec =
@@ -124,9 +124,10 @@ message-number-spec =
     returns
     returns-2
     returns-3
-    is-waiting-requires
     returns-4
+    is-waiting-requires
     returns-5
-    ready-requires
     returns-6
-    returns-7)
+    ready-requires
+    returns-7
+    returns-8)

@@ -5,11 +5,12 @@ use borrow.Author.Needs.{needs}
 use denote.Ref.{now}
 use lib.ListN.{length}
 use Rattle.frame.specs.Refusal.{firstOf}
-use Rattle.rules.specs.Panel.{Panel as Record, met, lapsed, ready}
-use Rattle.rules.specs.Refusals.{broken, messageChecks}
+use Rattle.rules.specs.Panel.{Panel as Record}
+use Rattle.rules.specs.Refusals.{broken}
 use Rattle.parts.specs.Record.{Parts, parts, recordOf}
 use Rattle.parts.proofs.Answering.{valid-kept}
 use Rattle.checking.specs.Checks.{frameChecksOn}
+use Rattle.checking.proofs.MessageChecks.{checks-asking}
 use Rattle.checking.proofs.Checking.{frame-refused, frame-through, through-reads, through-valid}
 use Rattle.checking.proofs.receive_number.Statement.{statement}
 use Rattle.checking.proofs.receive_number.Tie as tie
@@ -54,9 +55,8 @@ message-number-requires c κs =
     )
 
 returns-2 : tie.Need-returns-2
-unfolding messageChecks ready met lapsed
 returns-2 c =
-    c .message-number .ensures ∙ frame-through _ _ _ (sym (framed (c .before .before)) ∙ c .before .if1 .left)
+    c .message-number .ensures ∙ ap firstOf (checks-asking _ _ _ _ _ _ _ _) ∙ frame-through _ _ _ (sym (framed (c .before .before)) ∙ c .before .if1 .left)
 
 pub receive-number-spec : {M : Type 1} → statement M
 receive-number-spec = tie.close (tie.spec broken-requires frame-number-requires returns message-number-requires returns-2)

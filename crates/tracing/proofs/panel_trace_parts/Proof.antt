@@ -1,15 +1,17 @@
 -- `tracing::panel_trace_parts` meets its contract: the number is that of the first check that applies, the rest is the answer of the test for
 -- ready. Assumes nothing.
-use mathlib.Core.Path.{_≡_, sym, _∙_}
+use mathlib.Core.Path.{_≡_, sym, ap, _∙_}
 use mathlib.Core.Bool.{false}
 use borrow.Author.Needs.{needs}
 use denote.Ref.{now}
-use Rattle.rules.specs.Panel.{Panel as Record, met, lapsed, ready}
-use Rattle.rules.specs.Refusals.{broken, messageChecks}
+use Rattle.frame.specs.Refusal.{firstOf}
+use Rattle.rules.specs.Panel.{Panel as Record}
+use Rattle.rules.specs.Refusals.{broken}
 use Rattle.rules.proofs.Checks.{broken-false}
 use Rattle.slots.specs.Slots.{Reads}
 use Rattle.parts.specs.Record.{Parts, parts, recordOf}
 use Rattle.parts.proofs.Answering.{valid-kept}
+use Rattle.checking.proofs.MessageChecks.{checks-asking}
 use Rattle.tracing.proofs.Showing.{number-broken, number-unread, number-read, shown-unread, shown-read}
 use Rattle.tracing.proofs.panel_trace_parts.Statement.{statement}
 use Rattle.tracing.proofs.panel_trace_parts.Tie as tie
@@ -73,14 +75,13 @@ message-number-requires c κs =
     (reads (tested .before), search needs, valid-kept (lent at) (broken-false (given at) (whole (c .before))))
 
 returns-3 : tie.Need-returns-3
-unfolding messageChecks ready met lapsed
 returns-3 c =
     let tested = c .before .before .before in
     let at = tested .before .before in
     let bytes = now (start at .args .frame) in
     let read = reads (tested .before) in
-    shown-read (given at) bytes _ (c .message-number .ensures ∙ number-read (given at) bytes (whole (c .before .before)) read)
-    read _ _ (tested .ready .ensures .0) (tested .ready .ensures .1)
+    let number = c .message-number .ensures ∙ ap firstOf (checks-asking _ _ _ _ _ _ _ _) ∙ number-read (given at) bytes (whole (c .before .before)) read in
+    shown-read (given at) bytes _ number read _ _ (tested .ready .ensures .0) (tested .ready .ensures .1)
 
 pub panel-trace-parts-spec : {M : Type 1} → statement M
 panel-trace-parts-spec =

@@ -13,16 +13,18 @@ use Rattle.frame.specs.Reading.{message, refusal, messageIn, reading}
 use Rattle.frame.specs.Readable.{readable}
 use Rattle.frame.proofs.Theorems.{reading-frame, frame-reading}
 use Rattle.rules.specs.Sizes.{width, outputLength}
-use Rattle.rules.specs.Panel.{Panel}
+use Rattle.rules.specs.Panel.{Name, Panel}
 use Rattle.rules.specs.Calls.{newMessage}
-use Rattle.rules.specs.Refusals.{Listed, freshNumber}
+use Rattle.rules.specs.Refusals.{tooFarAhead, Listed, freshNumber}
 use Rattle.rules.specs.Results.{Call, send, receive, outputOf, bufferOf, effectOf, refused, defined}
 use Rattle.rules.specs.Visiting.{Counted, trace}
-use Rattle.rules.specs.Lists.{recordAt, Lawful}
+use Rattle.rules.specs.Lists.{recordAt, sends, Before, Lawful}
 use Rattle.rules.specs.Demand3.{Demand3}
+use Rattle.rules.specs.FarAhead.{FarAhead}
 use Rattle.rules.proofs.Theorems.{demand-3, number-listed, reading-listed, fresh-listed, trace-listed, refusal-unchanged, sent-reads, trace-waits-reached}
 use Rattle.rules.proofs.Visiting.{visits-counted}
 use Rattle.rules.proofs.Tracing.{trace-number, trace-handed}
+use Rattle.rules.proofs.FarAhead.{far-ahead, causes-near}
 use Rattle.exports.proofs.Fresh.{freshRecord-within}
 use Rattle.demands.specs.Runs.{Run, madeOf}
 use Rattle.demands.specs.Beginning.{BeginsInPlace, BeginsByValue}
@@ -33,7 +35,7 @@ use Rattle.demands.proofs.Calls.{Calls, calls}
 pub record Demands (M : Type 1) : Type 2 where
   -- The code: all public calls, for all arguments.
   pub every-call : Calls M
-  -- Demand 1: the answer is a result or one of the numbers in document 01; a refusal gives back the record as it was and alters no byte.
+  -- Demand 1: the answer is a result or one of the numbers in documents 01 and 02; a refusal gives back the record as it was and alters no byte.
   pub numbers : (p : Panel) (call : Call) → Listed (defined p call .number)
   pub frame-numbers : (bytes : List ℕ) → Listed (refusal width bytes)
   pub fresh-numbers : (own : ℕ) → Listed (freshNumber own)
@@ -63,6 +65,12 @@ pub record Demands (M : Type 1) : Type 2 where
   pub trace-waits : (list : List Run) → Follows list → Lawful (map madeOf list) → (panel : ℕ) (bytes output : List ℕ)
       → let p = recordAt panel (map madeOf list) in
       trace p bytes .number ≡ 0 → trace p bytes .ready ≡ false → effectOf p (receive bytes output) .handed ≡ []
+  -- Document 02, W-205: which deadlines are too far ahead to be taken, and that what waits or stands in the log stays, at any panel. After any
+  -- list of calls, what is before a message in cause is too far ahead only where that message is.
+  pub far-ahead : (p : Panel) → FarAhead p
+  pub causes-near : (list : List Run) → Follows list → Lawful (map madeOf list) → (panel : ℕ) (x y : Name)
+      → let made = map madeOf list in
+      Before (sends made) x y → tooFarAhead (recordAt panel made) (y .deadline) ≡ false → tooFarAhead (recordAt panel made) (x .deadline) ≡ false
 
 -- The code keeps the demands.
 pub demands : {M : Type 1} → Demands M
@@ -84,4 +92,6 @@ demands =
       trace-number = trace-number;
       trace-handed = λ p bytes output ready. trace-handed p bytes ready;
       trace-waits = λ list follows lawful panel bytes output. trace-waits-reached (map madeOf list) lawful (follows-promised list follows) panel bytes;
+      far-ahead = far-ahead;
+      causes-near = λ list follows lawful. causes-near (map madeOf list) lawful (follows-promised list follows);
     }

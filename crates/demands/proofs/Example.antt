@@ -7,7 +7,8 @@ use mathlib.Core.List.{List, [], _∷_, _++_, map, List·Memᴰ·head as first, 
 use lib.ListN.{drop, replicate}
 use denote.Ref.{RefT}
 use Rattle.rules.specs.Panel.{none64, fresh}
-use Rattle.rules.specs.BenchCases.{of, output, buffer, outputWith, deadline1, frame1, logged1, deadline2, frame2, logged2}
+use Rattle.rules.specs.Cases.{of, output, buffer, outputWith}
+use Rattle.rules.specs.BenchCases.{deadline1, frame1, logged1, deadline2, frame2, logged2}
 use Rattle.rules.specs.Lists.{framesSent, namesIn, logAt, sends, Given, Lawful}
 use Rattle.rules.proofs.BenchCases.{callsOpened}
 use Rattle.rules.proofs.Shams.{hold, lifted, payload-bytes, empty-bytes}

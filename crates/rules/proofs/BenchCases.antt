@@ -16,7 +16,9 @@ use Rattle.rules.specs.Calls.{handAndSettle, sendDeadline, newMessage, s
 use Rattle.rules.specs.Refusals.{eachReadable, broken, isWaiting, tooFarAhead, sendChecks, messageChecks, receiveChecks, clockChecks}
 use Rattle.rules.specs.Results.{refused, done, unless, defined}
 use Rattle.rules.specs.Visiting.{entriesFrom, upToUnmet, traceChecks, trace}
-use Rattle.rules.specs.BenchCases.{finished, _and_, EachHolds, EachShown, frame1, case1, frame2, case2, case3, case4, case5, case6, case7, case8, queue, case9, case10, case11, caseBeacon, caseOrder, caseUnreached, caseTrace, benchCases}
+use Rattle.rules.specs.Cases.{finished, _and_, EachHolds, EachShown}
+use Rattle.rules.specs.FarAheadCases.{farFrame1, farFrame2, caseFarAhead, caseFarAheadStays, caseLastDays}
+use Rattle.rules.specs.BenchCases.{frame1, case1, frame2, case2, case3, case4, case5, case6, case7, case8, queue, case9, case10, case11, caseBeacon, caseOrder, caseUnreached, caseTrace, benchCases}
 
 -- whoever unfolds these unfolds all definitions: of frames, of a panel's rules, of the calls, and the cases
 unfoldable pub framesOpened : Unit {0}
@@ -32,17 +34,17 @@ unfolding framesOpened rulesOpened handAndSettle sendDeadline newMessage sending
 callsOpened = tt
 
 tracesOpened : Unit {0}
-unfolding callsOpened fresh reading entriesFrom upToUnmet traceChecks trace frame1 frame2 queue caseTrace
+unfolding callsOpened fresh reading entriesFrom upToUnmet traceChecks trace frame1 frame2 farFrame1 farFrame2 queue caseTrace
 tracesOpened = tt
 
 casesOpened : Unit {0}
-unfolding callsOpened frame1 frame2 queue case1 case2 case3 case4 case5 case6 case7 case8 case9 case10 case11 caseBeacon caseOrder caseUnreached
+unfolding callsOpened frame1 frame2 farFrame1 farFrame2 queue case1 case2 case3 case4 case5 case6 case7 case8 case9 case10 case11 caseBeacon caseOrder caseUnreached caseFarAhead caseFarAheadStays caseLastDays
 casesOpened = tt
 
 -- Of every step of every case, the result that the case names is the one that document 01 defines.
 pub bench-cases : EachHolds benchCases
 unfolding casesOpened
-bench-cases = refl and refl and refl and refl and refl and refl and refl and refl and refl and refl and refl and refl and refl and refl and finished
+bench-cases = refl and refl and refl and refl and refl and refl and refl and refl and refl and refl and refl and refl and refl and refl and refl and refl and refl and finished
 
 -- Of every look of the traces' case, what the case shows is what documents 01 and 02 define.
 pub trace-case : EachShown caseTrace

@@ -70,7 +70,7 @@ module _ {ss : List Sent} (S : SendsSound ss) {log : List Name} {dead : ℕ} (L 
         marks-64 = length-raise marks m ∙ K .marks-64;
         barrier-64 = length-raise b m ∙ len;
         below-mark = λ x i.
-            ⊎-elim (λ k. omega (arith, K .below-mark x k, raise-le marks m above (x .source)))
+            ⊎-elim (λ k. omega (arith, K .below-mark x k, raise-le marks m (x .source)))
             (λ e. rw e (omega (arith, raise-same marks m above))) (isIn-end log i);
         mark-logged = raise-logged log m marks above (omega (arith, above-mark)) (K .mark-logged);
         below-high = λ x i. ⊎-elim (λ k. omega (arith, K .below-high x k)) (λ e. rw e (omega arith)) (isIn-end log i);

@@ -24,5 +24,6 @@ pub mod ClockStep
 pub mod Reached
 pub mod Results
 pub mod Tracing
+pub mod FarAhead
 pub mod Theorems
 pub mod Shams

@@ -1,11 +1,11 @@
 -- Laws of `raise`, by which marks and barrier entries grow, and of 64 zeros. Assumes nothing.
 use Prim.Native.Nat.{ℕ, zero, suc, _≤_, _<_, max}
-use native.Mathlib.Decide.{ℕ-discrete}
+use native.Mathlib.Decide.{ℕ-discrete, decLt}
 use native.Mathlib.Omega.{arith}
 use mathlib.Core.Path.{_≡_, refl}
 use mathlib.Core.Logic.{_≢_, by-cases}
 use mathlib.Core.List.{List}
-use lib.ListN.{length, getD, replicate, length-set, length-replicate}
+use lib.ListN.{length, getD, replicate, length-set, length-replicate, List·getD-eq-default}
 use lib.Seq.{getD-set-same, getD-set-other}
 use Rattle.frame.specs.Message.{Message}
 use Rattle.rules.specs.Panel.{none64}
@@ -23,9 +23,15 @@ pub raise-other : (ns : List ℕ) (m : Message) (panel : ℕ) → panel ≢ m .s
 unfolding raise
 raise-other ns m panel other = getD-set-other ns (m .source) panel _ 0 other
 
-pub raise-le : (ns : List ℕ) (m : Message) → m .source < length ns → (panel : ℕ) → getD ns panel 0 ≤ getD (raise ns m) panel 0
-raise-le ns m lt panel =
-    by-cases (ℕ-discrete panel (m .source)) (λ e. rw e (omega (arith, raise-same ns m lt))) (λ other. omega (arith, raise-other ns m panel other))
+-- none falls; past the end of the list there is none
+pub raise-le : (ns : List ℕ) (m : Message) (panel : ℕ) → getD ns panel 0 ≤ getD (raise ns m) panel 0
+raise-le ns m panel =
+    by-cases (ℕ-discrete panel (m .source)) (λ e. rw e same) (λ other. omega (arith, raise-other ns m panel other))
+  where
+    same : getD ns (m .source) 0 ≤ getD (raise ns m) (m .source) 0
+    same =
+        by-cases (decLt (m .source) (length ns)) (λ lt. omega (arith, raise-same ns m lt))
+        (λ past. omega (arith, List·getD-eq-default ns 0 {n = m .source} (omega (arith, past))))
 
 zeros : (n panel : ℕ) → getD {A = ℕ} (replicate n 0) panel 0 ≡ 0
 zeros zero panel = refl

@@ -9,7 +9,7 @@ use mathlib.Core.Bool.{Bool, true, false, _||_, true≢false}
 use mathlib.Core.List.{List}
 use lib.ListN.{getD}
 use lib.Dec.{leb}
-use borrow.Author.Tests.{ltb-true, ltb-false, leb-true, leb-false}
+use borrow.Author.Tests.{lt-ltb, ltb-true, ltb-false, leb-true, leb-false}
 use Rattle.frame.specs.Message.{Message}
 use Rattle.frame.proofs.Conjunction.{and-both}
 use Rattle.rules.specs.Panel.{Panel, lapsed, met, eachPanel, ready}
@@ -31,6 +31,10 @@ lapsed-true p deadline e = ltb-true deadline (p .time) e
 pub lapsed-false : (p : Panel) (deadline : ℕ) → lapsed p deadline ≡ false → limit p ≤ deadline
 unfolding lapsed limit
 lapsed-false p deadline e = ltb-false deadline (p .time) e
+
+pub limit-lapsed : (p : Panel) (deadline : ℕ) → deadline < limit p → lapsed p deadline ≡ true
+unfolding lapsed limit
+limit-lapsed p deadline lt = lt-ltb deadline (p .time) lt
 
 pub limit-time : (p : Panel) → limit p ≡ p .time
 unfolding limit

@@ -1,18 +1,20 @@
 -- Settling of any record: one step of it, an induction on it, and what follows. Assumes nothing.
-use Prim.Native.Nat.{ℕ, zero, suc, _+_, _<_}
+use Prim.Native.Nat.{ℕ, zero, suc, _+_, _≤_, _<_}
 use native.Mathlib.Omega.{arith}
 use mathlib.Core.Path.{_≡_, refl, ap, _∙_}
+use mathlib.Core.Logic.{_⊎_, inl, inr, ⊎-elim}
 use mathlib.Core.Bool.{true, false}
 use mathlib.Core.Option.{Option, none, some}
 use mathlib.Core.List.{List, [], _∷_, List·Memᴰ·head as first, List·Memᴰ·tail as later, Memᴰ·cast}
-use lib.ListN.{length}
+use lib.ListN.{length, getD}
 use Rattle.frame.specs.Message.{Message}
 use Rattle.rules.specs.Panel.{Panel, ready}
 use Rattle.rules.specs.Handing.{hand}
 use Rattle.rules.specs.Settling.{choice, without, withWaiting, Settled, waitingAt, goOn, settleIn, settle}
 use Rattle.rules.specs.Lists.{_isIn_}
+use Rattle.rules.proofs.Raise.{raise-le}
 use Rattle.rules.proofs.Choice.{choice-none, choice-some}
-use Rattle.rules.proofs.WaitingList.{isIn-without, getD-isIn, length-without}
+use Rattle.rules.proofs.WaitingList.{isIn-without, getD-isIn, without-isIn, length-without}
 
 -- nothing that waits is ready
 abbrev pub NoneReady : Panel → Type 0
@@ -82,15 +84,17 @@ pub record Settles (p : Panel) (s : Settled) : Type 0 where
   pub count : length (s .panel .waiting) + length (s .handed) ≡ length (p .waiting)
   pub left : (w : Message) → w isIn s .panel .waiting → w isIn p .waiting
   pub handed : (w : Message) → w isIn s .handed → w isIn p .waiting
+  pub kept : (w : Message) → w isIn p .waiting → (w isIn s .panel .waiting) ⊎ (w isIn s .handed)
+  pub marks : (source : ℕ) → getD (p .marks) source 0 ≤ getD (s .panel .marks) source 0
   pub settled : NoneReady (s .panel)
 
--- Settling ends with nothing ready waiting; what it leaves and what it hands was waiting.
+-- Settling ends with nothing ready waiting; what it leaves and what it hands was waiting, and all that was; no mark falls.
 pub settle-settles : (p : Panel) → Settles p (settle p)
 unfolding hand
 settle-settles = settle-induction Settles stop step
   where
     stop : (p : Panel) → NoneReady p → Settles p (record { panel = p; handed = [] })
-    stop p unready = record { own = refl; time = refl; count = omega arith; left = λ w i. i; handed = λ w i. elim i [ ]; settled = unready }
+    stop p unready = record { own = refl; time = refl; count = omega arith; left = λ w i. i; handed = λ w i. elim i [ ]; kept = λ w i. inl i; marks = λ source. omega arith; settled = unready }
 
     step : (p : Panel) (place : ℕ) (rest : Settled) → place < length (p .waiting) → ready p (waitingAt p place) ≡ true
         → Settles (handAt p place) rest → Settles p (record { panel = rest .panel; handed = waitingAt p place ∷ rest .handed })
@@ -101,6 +105,8 @@ settle-settles = settle-induction Settles stop step
           count = omega (arith, S .count, length-handAt p place lt);
           left = λ w i. isIn-without place (p .waiting) w (S .left w i);
           handed = λ w i. one w i (S .handed w);
+          kept = λ w i. ⊎-elim (λ e. inr (first e)) (λ k. ⊎-elim (λ a. inl a) (λ b. inr (later b)) (S .kept w k)) (without-isIn place (p .waiting) _ w i);
+          marks = λ source. omega (arith, S .marks source, raise-le (p .marks) (waitingAt p place) source);
           settled = S .settled;
         }
       where

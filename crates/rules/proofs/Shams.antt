@@ -15,7 +15,8 @@ use Rattle.rules.specs.Calls.{handAndSettle}
 use Rattle.rules.specs.Results.{Call, send, receive, clock, Result, done, defined}
 use Rattle.rules.specs.Lists.{_isIn_, Made, recordAt, framesSent, framesTaken, sentAt, takenAt, namesIn, logAt, timeAfter, timeAt, LapsedAt, sends, Before, direct, Given, Lawful, ran}
 use Rattle.rules.specs.Demand3.{ExactlyWhen, NoneTwice, NoneAhead}
-use Rattle.rules.specs.BenchCases.{output, buffer, deadline1, frame1, deadline2, frame2}
+use Rattle.rules.specs.Cases.{output, buffer}
+use Rattle.rules.specs.BenchCases.{deadline1, frame1, deadline2, frame2}
 use Rattle.rules.proofs.BenchCases.{callsOpened}
 use Rattle.rules.proofs.Cause.{LastStep, last}
 

@@ -1,101 +1,15 @@
--- Document 01, "Bench cases" 1 to 11 (12 is of the program), the first three with the deadlines of document 02, W-203. Each case is a list of
--- steps: a record and a call in; the answer, the record and all bytes out. Besides, traces: a record and a frame in; what is shown out. Bytes are
--- written out by hand.
-use Prim.Native.Nat.{ℕ, zero, suc, _+_, _*_}
-use mathlib.Core.Path.{_≡_}
-use mathlib.Core.Bool.{Bool, true, false}
-use mathlib.Core.List.{List, [], _∷_, _++_, map, flatten}
-use lib.ListN.{length, take, drop, set, replicate}
+-- Document 01, "Bench cases" 1 to 11 (12 is of the program), the first three with the deadlines of document 02, W-203; cases of our own; and all
+-- of them in one list.
+use Prim.Native.Nat.{ℕ, zero, suc, _+_}
+use mathlib.Core.Bool.{true, false}
+use mathlib.Core.List.{List, [], _∷_, _++_}
+use lib.ListN.{take, drop, replicate}
 use Rattle.frame.specs.Message.{Message, messageOf}
 use Rattle.rules.specs.Panel.{Panel, none64, fresh}
 use Rattle.rules.specs.Calls.{beaconLifetime}
-use Rattle.rules.specs.Results.{Call, send, receive, clock, Result, defined}
-use Rattle.rules.specs.Visiting.{Trace, trace}
-
--- a step: the record and the call that go in, and what comes out
-pub record Step : Type 0 where
-  pub panel : Panel
-  pub call : Call
-  pub result : Result
-
-abbrev pub step : Panel → Call → Result → Step
-step panel call result = record { panel = panel; call = call; result = result }
-
--- the results that document 01 defines are those of the case
-abbrev pub Holds : List Step → Type 0
-Holds steps = map (λ (s : Step). s .result) steps ≡ map (λ (s : Step). defined (s .panel) (s .call)) steps
-
--- each case of a list holds
-infixr 5 _and_
-pub data EachHolds : List (List Step) → Type 0 where
-  finished : EachHolds []
-  _and_ : {steps : List Step} {cases : List (List Step)} → Holds steps → EachHolds cases → EachHolds (steps ∷ cases)
-
--- a trace: the record and the frame that go in, and what is shown
-pub record Look : Type 0 where
-  pub panel : Panel
-  pub bytes : List ℕ
-  pub shown : Trace
-
--- what documents 01 and 02 define is what the case shows
-abbrev pub EachShown : List Look → Type 0
-EachShown looks = map (λ (l : Look). l .shown) looks ≡ map (λ (l : Look). trace (l .panel) (l .bytes)) looks
-
--- ---- how the cases are written
-
--- 64 numbers: those of the panels named, 0 at the others
-abbrev pub of : List (ℕ × ℕ) → List ℕ
-of [] = none64
-of (n ∷ ns) = set (of ns) (n .0) (n .1)
-
--- own number, time, high, marks, barrier, waiting
-abbrev pub panelOf : ℕ → ℕ → ℕ → List ℕ → List ℕ → List Message → Panel
-panelOf own time high marks barrier waiting =
-    record { own = own; time = time; high = high; marks = marks; barrier = barrier; waiting = waiting }
-
--- the buffers as they are lent
-abbrev pub output : List ℕ
-output = replicate 1254 7
-
-abbrev pub buffer : List ℕ
-buffer = replicate 307 7
-
--- a log record that begins with these bytes, zeros behind
-abbrev pub logged : List ℕ → List ℕ
-logged bytes = take 38 (bytes ++ replicate 38 0)
-
--- a frame: mark and version, then these bytes: those up to the last 00 of the mask, and those behind
-abbrev pub frameFrom : List ℕ → List ℕ → List ℕ
-frameFrom start rest = 0x44 ∷ 0x52 ∷ 0x59 ∷ 0x00 ∷ 0x01 ∷ (start ++ rest)
-
--- the mask of a frame without entries
-abbrev pub zeros8 : List ℕ
-zeros8 = replicate 8 0x00
-
--- the output with these log records
-abbrev pub outputWith : List (List ℕ) → List ℕ
-outputWith records = flatten records ++ drop (38 * length records) output
-
--- a send gave this record, these log records and this frame
-abbrev pub sent : Panel → List (List ℕ) → List ℕ → Result
-sent panel records frame =
-    record {
-      number = 0;
-      panel = panel;
-      count = length records;
-      output = outputWith records;
-      frameLength = length frame;
-      buffer = frame ++ drop (length frame) buffer;
-    }
-
--- a receive or a clock call gave this record and these log records
-abbrev pub taken : Panel → List (List ℕ) → Result
-taken panel records = record { number = 0; panel = panel; count = length records; output = outputWith records; frameLength = 0; buffer = [] }
-
--- a call with these lent buffers was refused with that number
-abbrev pub refusedWith : ℕ → Panel → List ℕ → List ℕ → Result
-refusedWith number panel output buffer =
-    record { number = number; panel = panel; count = 0; output = output; frameLength = 0; buffer = buffer }
+use Rattle.rules.specs.Results.{send, receive, clock}
+use Rattle.rules.specs.Cases.{Step, step, Look, look, of, panelOf, output, buffer, logged, frameFrom, zeros8, sent, taken, refusedWith}
+use Rattle.rules.specs.FarAheadCases.{farFrame1, farFrame2, caseFarAhead, caseFarAheadStays, caseLastDays}
 
 -- ---- 1: panel 3, time 100, sends 4F 4B with lifetime 0: deadline 7300; 21 bytes
 
@@ -263,6 +177,8 @@ caseOrder =
     let lapsed7 = frameFrom (0x07 ∷ 0x00 ∷ 0x00 ∷ 0x03 ∷ 0x20 ∷ zeros8) (0x00 ∷ []) in
     let full = panelOf 3 0 0 none64 none64 (queue 32) in
     let waits = frameFrom (0x05 ∷ 0x00 ∷ 0x00 ∷ 0x03 ∷ 0x84 ∷ replicate 7 0x00) (0x80 ∷ 0x00 ∷ 0x00 ∷ 0x03 ∷ 0x20 ∷ 0x00 ∷ []) in
+    let had1 = panelOf 3 0 2000100 (of ((1, 2000100) ∷ [])) none64 [] in
+    let panel1 = panelOf 1 0 0 none64 none64 [] in
     step above63 (send [] 0 short buffer) (refusedWith 26 above63 short buffer)
     ∷ step late (send (replicate 33 0x09) 0 output (replicate 306 7)) (refusedWith 10 late output (replicate 306 7))
     ∷ step late (send (replicate 33 0x09) 0 output buffer) (refusedWith 9 late output buffer)
@@ -272,6 +188,9 @@ caseOrder =
     ∷ step marked (receive (own ++ (0x00 ∷ [])) output) (refusedWith 8 marked output [])  -- its source is the own number too
     ∷ step marked (receive own output) (refusedWith 20 marked output [])  -- it has lapsed too
     ∷ step marked (receive lapsed7 output) (refusedWith 21 marked output [])  -- it is at most the mark too
+    ∷ step panel1 (receive farFrame1 output) (refusedWith 20 panel1 output [])  -- it is too far ahead too
+    ∷ step had1 (receive farFrame1 output) (refusedWith 32 had1 output [])  -- it is at most the mark too
+    ∷ step full (receive farFrame2 output) (refusedWith 32 full output [])  -- 32 wait, and it is not ready
     ∷ step full (receive waits output) (refusedWith 22 full output [])  -- it waits already, and 32 wait
     ∷ step above63 (clock 0 short) (refusedWith 26 above63 short [])
     ∷ step late (clock 0 short) (refusedWith 10 late short [])
@@ -294,11 +213,6 @@ caseUnreached =
 
 -- ---- document 02, W-202: traces, of the frames of cases 1 and 2, and of a message of panel 5 (or 6) with entries 800 of panels 3, 7 and 9
 
--- shown at that record: the number, whether it is ready, how many entries were visited
-abbrev pub look : Panel → List ℕ → ℕ → Bool → ℕ → Look
-look panel bytes number ready visited =
-    record { panel = panel; bytes = bytes; shown = record { number = number; ready = ready; visited = visited } }
-
 unfoldable pub caseTrace : List Look
 caseTrace =
     let after = frameFrom (0x05 ∷ 0x00 ∷ 0x00 ∷ 0x03 ∷ 0x84 ∷ replicate 6 0x00)
@@ -319,6 +233,8 @@ caseTrace =
     ∷ look (had ((5, 900) ∷ (3, 800) ∷ [])) after 22 false 2
     ∷ look (panelOf 0 0 900 (of ((3, 800) ∷ [])) none64 (queue 32)) after 22 false 2  -- it waits already
     ∷ look (panelOf 0 0 900 (of ((3, 800) ∷ [])) none64 (queue 32)) of6 23 false 2
+    ∷ look (fresh 0) farFrame1 32 true 0  -- too far ahead
+    ∷ look (fresh 0) farFrame2 32 false 1
     ∷ look (panelOf 0 0 900 (of all) none64 (queue 32)) of6 0 true 3
     ∷ look (panelOf 64 0 900 (of ((3, 800) ∷ [])) none64 []) after 26 false 2  -- a broken record has marks and a time all the same
     ∷ look (had all) (take 18 after) 1 false 0
@@ -329,4 +245,5 @@ caseTrace =
 
 abbrev pub benchCases : List (List Step)
 benchCases =
-    case1 ∷ case2 ∷ case3 ∷ case4 ∷ case5 ∷ case6 ∷ case7 ∷ case8 ∷ case9 ∷ case10 ∷ case11 ∷ caseBeacon ∷ caseOrder ∷ caseUnreached ∷ []
+    case1 ∷ case2 ∷ case3 ∷ case4 ∷ case5 ∷ case6 ∷ case7 ∷ case8 ∷ case9 ∷ case10 ∷ case11 ∷ caseBeacon ∷ caseOrder ∷ caseUnreached ∷ caseFarAhead ∷ caseFarAheadStays
+    ∷ caseLastDays ∷ []

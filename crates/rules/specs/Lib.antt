@@ -17,4 +17,7 @@ pub mod Results
 pub mod Visiting
 pub mod Lists
 pub mod Demand3
+pub mod FarAhead
+pub mod Cases
+pub mod FarAheadCases
 pub mod BenchCases

@@ -1,0 +1,101 @@
+-- How cases are written: a step is a record and a call in; the answer, the record and all bytes out. A trace is a record and a frame in; what is
+-- shown out. Bytes are written out by hand.
+use Prim.Native.Nat.{ℕ, _*_}
+use mathlib.Core.Path.{_≡_}
+use mathlib.Core.Bool.{Bool}
+use mathlib.Core.List.{List, [], _∷_, _++_, map, flatten}
+use lib.ListN.{length, take, drop, set, replicate}
+use Rattle.frame.specs.Message.{Message}
+use Rattle.rules.specs.Panel.{Panel, none64}
+use Rattle.rules.specs.Results.{Call, Result, defined}
+use Rattle.rules.specs.Visiting.{Trace, trace}
+
+-- a step: the record and the call that go in, and what comes out
+pub record Step : Type 0 where
+  pub panel : Panel
+  pub call : Call
+  pub result : Result
+
+abbrev pub step : Panel → Call → Result → Step
+step panel call result = record { panel = panel; call = call; result = result }
+
+-- the results that document 01 defines are those of the case
+abbrev pub Holds : List Step → Type 0
+Holds steps = map (λ (s : Step). s .result) steps ≡ map (λ (s : Step). defined (s .panel) (s .call)) steps
+
+-- each case of a list holds
+infixr 5 _and_
+pub data EachHolds : List (List Step) → Type 0 where
+  finished : EachHolds []
+  _and_ : {steps : List Step} {cases : List (List Step)} → Holds steps → EachHolds cases → EachHolds (steps ∷ cases)
+
+-- a trace: the record and the frame that go in, and what is shown
+pub record Look : Type 0 where
+  pub panel : Panel
+  pub bytes : List ℕ
+  pub shown : Trace
+
+-- what documents 01 and 02 define is what the case shows
+abbrev pub EachShown : List Look → Type 0
+EachShown looks = map (λ (l : Look). l .shown) looks ≡ map (λ (l : Look). trace (l .panel) (l .bytes)) looks
+
+-- ---- records, bytes and results
+
+-- 64 numbers: those of the panels named, 0 at the others
+abbrev pub of : List (ℕ × ℕ) → List ℕ
+of [] = none64
+of (n ∷ ns) = set (of ns) (n .0) (n .1)
+
+-- own number, time, high, marks, barrier, waiting
+abbrev pub panelOf : ℕ → ℕ → ℕ → List ℕ → List ℕ → List Message → Panel
+panelOf own time high marks barrier waiting =
+    record { own = own; time = time; high = high; marks = marks; barrier = barrier; waiting = waiting }
+
+-- the buffers as they are lent
+abbrev pub output : List ℕ
+output = replicate 1254 7
+
+abbrev pub buffer : List ℕ
+buffer = replicate 307 7
+
+-- a log record that begins with these bytes, zeros behind
+abbrev pub logged : List ℕ → List ℕ
+logged bytes = take 38 (bytes ++ replicate 38 0)
+
+-- a frame: mark and version, then these bytes: those up to the last 00 of the mask, and those behind
+abbrev pub frameFrom : List ℕ → List ℕ → List ℕ
+frameFrom start rest = 0x44 ∷ 0x52 ∷ 0x59 ∷ 0x00 ∷ 0x01 ∷ (start ++ rest)
+
+-- the mask of a frame without entries
+abbrev pub zeros8 : List ℕ
+zeros8 = replicate 8 0x00
+
+-- the output with these log records
+abbrev pub outputWith : List (List ℕ) → List ℕ
+outputWith records = flatten records ++ drop (38 * length records) output
+
+-- a send gave this record, these log records and this frame
+abbrev pub sent : Panel → List (List ℕ) → List ℕ → Result
+sent panel records frame =
+    record {
+      number = 0;
+      panel = panel;
+      count = length records;
+      output = outputWith records;
+      frameLength = length frame;
+      buffer = frame ++ drop (length frame) buffer;
+    }
+
+-- a receive or a clock call gave this record and these log records
+abbrev pub taken : Panel → List (List ℕ) → Result
+taken panel records = record { number = 0; panel = panel; count = length records; output = outputWith records; frameLength = 0; buffer = [] }
+
+-- a call with these lent buffers was refused with that number
+abbrev pub refusedWith : ℕ → Panel → List ℕ → List ℕ → Result
+refusedWith number panel output buffer =
+    record { number = number; panel = panel; count = 0; output = output; frameLength = 0; buffer = buffer }
+
+-- shown at that record: the number, whether it is ready, how many entries were visited
+abbrev pub look : Panel → List ℕ → ℕ → Bool → ℕ → Look
+look panel bytes number ready visited =
+    record { panel = panel; bytes = bytes; shown = record { number = number; ready = ready; visited = visited } }

@@ -10,6 +10,7 @@
 #include <string.h>
 
 enum { LOG_MAX = 16, BUNDLE_MAX = 1024 };
+enum { YEAR = 365 * 24 * 60 * 60 }; /* in seconds */
 
 /* A panel: its record, and its log so far. */
 typedef struct {
@@ -159,6 +160,14 @@ static void trace(const Member *member, const Parcel *parcel)
         printf("that of panel %u not met\n", last_visited(parcel, answer.visited));
 }
 
+/* A technician asks why a panel refuses a frame. */
+static void say_why(const Member *member, const Parcel *parcel)
+{
+    PanelTrace answer = panel_trace(&member->record, parcel->bytes, parcel->length);
+    printf("why panel %u refuses \"%s\": %s\n", member->record.own, parcel->text,
+           panel_number_text(answer.number));
+}
+
 /* The radio looks at a frame that was damaged on its way, here in the first byte of its mark. */
 static void check_damaged(Parcel parcel)
 {
@@ -256,6 +265,21 @@ static void look_for_cause(Member *member, const Parcel *beacon, const Cab *cab)
     trace(member, beacon);
 }
 
+/*
+ * The clock of a panel is set to a wrong year, so the note that it sends is far ahead. The others
+ * refuse it, and go on as before.
+ */
+static void wrong_year(Member *wrong, Member *one, Member *other)
+{
+    set_clock(wrong, wrong->record.time + YEAR);
+    Parcel far_ahead = send_text(wrong, "bin 5 full");
+    receive(one, &far_ahead);
+    receive(other, &far_ahead);
+    say_why(other, &far_ahead);
+    Parcel moisture = send_text(one, "moisture 17");
+    receive(other, &moisture);
+}
+
 int main(void)
 {
     static Member three, five, nine;
@@ -289,6 +313,8 @@ int main(void)
     /* panel 3 has not had it; at panel 5 it has lapsed, and so have the entries that it carries */
     look_for_cause(&three, &beacon, &cab);
     trace(&five, &beacon);
+
+    wrong_year(&three, &five, &nine);
 
     print_log(&three);
     print_log(&five);

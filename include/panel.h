@@ -51,6 +51,19 @@
  * on different records may run at the same time. Calls on one record go one after another. The
  * archive needs memcpy and memset, and nothing else.
  *
+ * Deadlines far ahead. A panel with a wrong year would keep dead notes alive for everybody, so a
+ * receive refuses, with 32, a deadline above time + PANEL_FARTHEST_AHEAD.
+ * - A fresh panel has time 0: until panel_clock has set its time, it refuses every deadline above
+ *   1,209,600. Give it the clock reading before the first frame.
+ * - A frame that was refused with 32 may be received again, and is taken once the time is near
+ *   enough: whoever carries it should not throw it away.
+ * - Messages that are waiting or logged already stay, however far ahead they are.
+ * - A send's deadline is above high, and so may be further ahead than that. Then the other panels
+ *   refuse it until their time is near enough. (So it is with all that a panel sends whose record
+ *   comes from an older version and has the high of a wrong year.)
+ * - What 32 tells a technician: the clock of the sender, or of a panel whose message the sender
+ *   had, is ahead; or the clock of this panel is behind, or was never set.
+ *
  * Storing a record. It is plain data without pointers. It may be copied, or saved as its
  * sizeof(Panel) bytes and read back by the same version of this header. Go on with the record as
  * the last call left it, never with an older copy, which would hand messages again and give out a
@@ -83,12 +96,12 @@ extern "C" {
 /* ---- Version ---- */
 
 /* Major 0, as the layout of the record still changes with coming versions: a record that another
-   version saved is not to be read. (0.3 and 0.4 have the layout of 0.2, and read its records.)
-   Frames, bundles and logs stay as document 01 has them. */
+   version saved is not to be read. (0.3, 0.4 and 0.5 have the layout of 0.2, and each reads the
+   records of those before it.) Frames, bundles and logs stay as document 01 has them. */
 #define PANEL_VERSION_MAJOR 0
-#define PANEL_VERSION_MINOR 4
+#define PANEL_VERSION_MINOR 5
 #define PANEL_VERSION_PATCH 0
-#define PANEL_VERSION "0.4.0"
+#define PANEL_VERSION "0.5.0"
 
 /* ---- Sizes ---- */
 
@@ -96,16 +109,18 @@ extern "C" {
 #define PANEL_STACK_BYTES 8192
 
 enum {
-    PANEL_PANELS = 64,             /* panels of a farm, numbered from 0 */
-    PANEL_WAITING_MAX = 32,        /* messages that may wait at a panel */
-    PANEL_PAYLOAD_MAX = 32,        /* bytes of a payload */
-    PANEL_LIFETIME_DEFAULT = 7200, /* seconds that a lifetime of 0 means */
-    PANEL_LIFETIME_BEACON = 1200,  /* seconds of a beacon's lifetime */
-    PANEL_FRAME_MIN = 19,          /* bytes of the shortest frame */
-    PANEL_FRAME_MAX = 307,         /* bytes of the longest, and of the frame buffer at least */
-    PANEL_OUTPUT_MIN = 1254,       /* bytes of the output at least: 33 log records */
-    PANEL_SLOT_BYTES = 309,        /* a slot: the length of a frame in 16 bits, then the frame */
-    PANEL_SLOTS_BYTES = 9888       /* 32 slots */
+    PANEL_PANELS = 64,              /* panels of a farm, numbered from 0 */
+    PANEL_WAITING_MAX = 32,         /* messages that may wait at a panel */
+    PANEL_PAYLOAD_MAX = 32,         /* bytes of a payload */
+    PANEL_LIFETIME_DEFAULT = 7200,  /* seconds that a lifetime of 0 means */
+    PANEL_LIFETIME_BEACON = 1200,   /* seconds of a beacon's lifetime */
+    PANEL_FARTHEST_AHEAD = 1209600, /* seconds that a received deadline may be ahead of the time:
+                                       14 days */
+    PANEL_FRAME_MIN = 19,           /* bytes of the shortest frame */
+    PANEL_FRAME_MAX = 307,          /* bytes of the longest, and of the frame buffer at least */
+    PANEL_OUTPUT_MIN = 1254,        /* bytes of the output at least: 33 log records */
+    PANEL_SLOT_BYTES = 309,         /* a slot: the length of a frame in 16 bits, then the frame */
+    PANEL_SLOTS_BYTES = 9888        /* 32 slots */
 };
 
 /* A log record, and where its parts stand. Numbers have the highest byte first, as in a frame. */
@@ -139,7 +154,7 @@ typedef enum PanelNumber {
                                                send under 307 */
     PANEL_REFUSED_PANEL_NUMBER = 11,        /* a panel number above 63 asked of a fresh panel */
 
-    /* because of the state */
+    /* because of the state; 32 is looked at directly after 21 */
     PANEL_REFUSED_OWN_SOURCE = 20,        /* the frame's source is the own number */
     PANEL_REFUSED_LAPSED = 21,            /* the message has lapsed */
     PANEL_REFUSED_HAD_ALREADY = 22,       /* its deadline is at most its source's mark, or it is
@@ -147,9 +162,10 @@ typedef enum PanelNumber {
     PANEL_REFUSED_LIST_FULL = 23,         /* 32 are waiting and this one is not ready */
     PANEL_REFUSED_DEADLINE_TOO_HIGH = 24, /* the deadline of a send would pass 4,294,967,295 */
     PANEL_REFUSED_CLOCK_BACK = 25,        /* the clock reading is below the panel's time */
-    PANEL_REFUSED_RECORD_BROKEN = 26      /* the record has an own number above 63, a mark or
+    PANEL_REFUSED_RECORD_BROKEN = 26,     /* the record has an own number above 63, a mark or
                                              barrier entry above high, over 32 waiting, or a
                                              waiting message that no readable frame carries */
+    PANEL_REFUSED_TOO_FAR_AHEAD = 32      /* its deadline is above time + 1,209,600 */
 } PanelNumber;
 
 /* Lets the compiler warn of an answer that is not looked at, and of a pointer that is null. */
@@ -181,7 +197,8 @@ typedef struct Panel {
 
 /*
  * Makes a fresh panel: time 0, high 0, all marks and barrier entries 0, nothing waiting. It sets
- * every byte of the record, those between the fields too, whatever was there.
+ * every byte of the record, those between the fields too, whatever was there. Give it a clock
+ * reading before the first frame is received (see above, deadlines far ahead).
  * Refused with 11; the record is then a fresh panel 0.
  */
 PANEL_ANSWER PANEL_NOT_NULL
@@ -198,11 +215,11 @@ typedef struct PanelAnswer {
 
 /*
  * Sends a payload of 0 to 32 bytes. The deadline of the message is the larger of time + lifetime
- * (0 means PANEL_LIFETIME_DEFAULT) and high + 1. Its frame stands at the start of the frame buffer,
- * `length` bytes, and carries the barrier entries as they were. Then the barrier is emptied, the own
- * message is handed, and the panel settles: `count` log records, 1 to 33, stand one after another
- * from the start of the output, the own message first. Bytes behind the frame and behind the log
- * records keep their content.
+ * (0 means PANEL_LIFETIME_DEFAULT) and high + 1, however far ahead that is. Its frame stands at the
+ * start of the frame buffer, `length` bytes, and carries the barrier entries as they were. Then the
+ * barrier is emptied, the own message is handed, and the panel settles: `count` log records, 1 to
+ * 33, stand one after another from the start of the output, the own message first. Bytes behind the
+ * frame and behind the log records keep their content.
  * Refused with the first of 26, 10, 9, 24 that applies.
  */
 PANEL_ANSWER PANEL_NOT_NULL
@@ -227,7 +244,8 @@ static inline PanelAnswer panel_beacon(Panel *panel, const uint8_t *payload, siz
  * if for each entry the panel has had that message or the entry has lapsed; otherwise it waits.
  * Then the panel settles: `count` log records, 0 to 33, stand one after another from the start of
  * the output, and the bytes behind them keep their content.
- * Refused with the first of 26, 10, 1 to 8 as by panel_frame_check, 20, 21, 22, 23 that applies.
+ * Refused with the first of 26, 10, 1 to 8 as by panel_frame_check, 20, 21, 32, 22, 23 that
+ * applies. A frame that was refused with 32 may be received again when the time is nearer.
  */
 PANEL_ANSWER PANEL_NOT_NULL
 static inline PanelAnswer panel_receive(Panel *panel, const uint8_t *frame, size_t frame_length,
@@ -254,8 +272,9 @@ typedef struct PanelTrace {
 
 /*
  * Tells what would become of a frame, whole or damaged, of any length. It changes nothing.
- * The number is the first of 26, 1 to 8 as by panel_frame_check, 20, 21, 22, 23 that applies: the
- * number that panel_receive would answer with this frame and an output of PANEL_OUTPUT_MIN bytes.
+ * The number is the first of 26, 1 to 8 as by panel_frame_check, 20, 21, 32, 22, 23 that applies:
+ * the number that panel_receive would answer with this frame and an output of PANEL_OUTPUT_MIN
+ * bytes.
  * An entry is met if the mark of its panel is at least the entry, or if the entry has lapsed. The
  * test for ready goes from one set bit of the frame's mask to the next, lowest panel first, up to
  * the first entry that is not met, that one included, or through all. So where the message is not
@@ -474,8 +493,9 @@ static inline const char *panel_number_text(PanelNumber number)
     case PANEL_REFUSED_RECORD_BROKEN:
         return "the record has an own number above 63, a mark or barrier entry above high, over 32 "
                "waiting, or a waiting message that no readable frame carries";
+    case PANEL_REFUSED_TOO_FAR_AHEAD: return "its deadline is above time + 1,209,600";
     }
-    return "no number of document 01";
+    return "no number of this header";
 }
 
 static inline PanelNumber panel_fresh(Panel *panel, uint8_t number)

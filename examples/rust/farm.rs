@@ -4,6 +4,9 @@
 use panel::{frame_check, log_records, Bundle, Frame, Log, Panel, Refusal, PANELS};
 use std::process::ExitCode;
 
+/// In seconds.
+const YEAR: u32 = 365 * 24 * 60 * 60;
+
 /// A panel, and its log so far.
 struct Member {
     panel: Panel,
@@ -107,6 +110,14 @@ impl Member {
         }
     }
 
+    /// A technician asks why the panel refuses a frame.
+    fn say_why(&self, parcel: &Parcel) {
+        let (own, text) = (self.panel.own(), parcel.text);
+        if let Some(refusal) = self.panel.trace(&parcel.frame).refusal {
+            println!("why panel {own} refuses \"{text}\": {refusal}");
+        }
+    }
+
     /// A cab meets the panel and passes its bundle.
     fn receive_bundle(&mut self, bundle: &[u8]) {
         let own = self.panel.own();
@@ -199,6 +210,19 @@ fn look_for_cause(member: &mut Member, beacon: &Parcel, bundle: &[u8]) {
     member.trace(beacon);
 }
 
+/// The clock of a panel is set to a wrong year, so the note that it sends is far ahead. The others
+/// refuse it, and go on as before.
+fn wrong_year(wrong: &mut Member, one: &mut Member, other: &mut Member) -> Result<(), Refusal> {
+    wrong.set_clock(wrong.panel.time() + YEAR)?;
+    let far_ahead = wrong.send("bin 5 full")?;
+    one.receive(&far_ahead);
+    other.receive(&far_ahead);
+    other.say_why(&far_ahead);
+    let moisture = one.send("moisture 17")?;
+    other.receive(&moisture);
+    Ok(())
+}
+
 fn story() -> Result<(), Refusal> {
     // no common clock
     let mut three = Member::start(3, 100)?;
@@ -229,6 +253,8 @@ fn story() -> Result<(), Refusal> {
     // panel 3 has not had it; at panel 5 it has lapsed, and so have the entries that it carries
     look_for_cause(&mut three, &beacon, &bundle);
     five.trace(&beacon);
+
+    wrong_year(&mut three, &mut five, &mut nine)?;
 
     three.print_log();
     five.print_log();

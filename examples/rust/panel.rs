@@ -24,6 +24,8 @@ pub const PAYLOAD_MAX: usize = 32;
 pub const LIFETIME_DEFAULT: u16 = 7200;
 /// Seconds of a beacon's lifetime.
 pub const LIFETIME_BEACON: u16 = 1200;
+/// Seconds that a received deadline may be ahead of the time: 14 days.
+pub const FARTHEST_AHEAD: u32 = 1_209_600;
 /// Bytes of the longest frame.
 pub const FRAME_MAX: usize = 307;
 /// Bytes of a log record.
@@ -174,7 +176,7 @@ mod archive {
     }
 }
 
-/// Why a call was refused, with document 01's number. A refusal changes nothing.
+/// Why a call was refused, with the number of document 01 or 02. A refusal changes nothing.
 #[derive(Clone, Copy, Debug, PartialEq, Eq)]
 #[repr(u8)]
 pub enum Refusal {
@@ -196,11 +198,12 @@ pub enum Refusal {
     DeadlineTooHigh = 24,
     ClockBack = 25,
     RecordBroken = 26,
+    TooFarAhead = 32,
 }
 
 impl Refusal {
     /// Every refusal, in the order of the numbers.
-    pub const ALL: [Refusal; 18] = [
+    pub const ALL: [Refusal; 19] = [
         Refusal::FrameShort,
         Refusal::FrameMark,
         Refusal::FrameVersion,
@@ -219,9 +222,10 @@ impl Refusal {
         Refusal::DeadlineTooHigh,
         Refusal::ClockBack,
         Refusal::RecordBroken,
+        Refusal::TooFarAhead,
     ];
 
-    /// Document 01's number.
+    /// The number of document 01 or 02.
     pub fn number(self) -> u8 {
         self as u8
     }
@@ -258,6 +262,7 @@ impl fmt::Display for Refusal {
                 "the record has an own number above 63, a mark or barrier entry above high, over \
                  32 waiting, or a waiting message that no readable frame carries"
             }
+            Refusal::TooFarAhead => "its deadline is above time + 1,209,600",
         })
     }
 }
@@ -274,7 +279,7 @@ fn accepted(number: u8) -> Result<(), Refusal> {
         .find(|refusal| refusal.number() == number)
     {
         Some(refusal) => Err(*refusal),
-        None => unreachable!("{number} is no number of document 01"),
+        None => unreachable!("{number} is no number of panel.h"),
     }
 }
 
@@ -464,7 +469,8 @@ pub struct Panel {
 }
 
 impl Panel {
-    /// A fresh panel of that number.
+    /// A fresh panel of that number, at time 0. Give it the clock reading before the first frame:
+    /// until then it refuses each deadline above `FARTHEST_AHEAD`.
     pub fn fresh(number: u8) -> Result<Panel, Refusal> {
         let mut panel = Panel {
             own: 0,
@@ -492,7 +498,9 @@ impl Panel {
     }
 
     /// Sends a payload of at most 32 bytes; a lifetime of 0 means `LIFETIME_DEFAULT`. The first of
-    /// the log records is that of the message sent.
+    /// the log records is that of the message sent. Its deadline is above the largest in the log:
+    /// if that puts it further ahead than `FARTHEST_AHEAD`, the other panels refuse it until their
+    /// time is near enough.
     pub fn send(&mut self, payload: &[u8], lifetime: u16) -> Result<(Frame, Log), Refusal> {
         let mut frame = Frame::new();
         let mut log = Log::new();
@@ -553,7 +561,9 @@ impl Panel {
         Ok((frame, log))
     }
 
-    /// Receives the bytes of a frame, whole or damaged.
+    /// Receives the bytes of a frame, whole or damaged. A deadline above the time and
+    /// `FARTHEST_AHEAD` is refused with `Refusal::TooFarAhead`. Such a frame may be received again,
+    /// and is taken once the time is near enough.
     pub fn receive(&mut self, frame: &[u8]) -> Result<Log, Refusal> {
         let mut log = Log::new();
         // SAFETY: the frame is a slice, the output an array of this function; both are passed with

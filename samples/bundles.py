@@ -4,8 +4,8 @@ and those of tests/list, which tests/run.sh runs (harvest.bundle is one of them)
 
 usage: samples/bundles.py    (from anywhere; it writes into the repository that it stands in)
 
-What each run must print stands beside it, in crates/list/stdout or tests/list/NAME.out, written from document 01 by hand; that of
-many_lines is written here, as it is the same two lines 3,120 times.
+What each run must print stands beside it, in crates/list/stdout or tests/list/NAME.out, written from documents 01 and 02 by hand; that
+of many_lines is written here, as it is the same two lines 3,120 times.
 """
 import os
 import struct
@@ -41,6 +41,9 @@ HARVEST = bundle(LIFTED, MOISTURE, b"DRX" + HOLD[3:], HOLD, MOISTURE)
 FIRST = frame(3, DUE, payload=b"OK")
 SECOND = frame(3, NEXT_DUE, {3: DUE})
 
+# The farthest deadline that panel 0 takes at time 0, and the last that there is.
+FARTHEST_DUE, LAST_DUE = 1209600, 4294967295
+
 # 32 messages that wait for one of panel 1, which comes last.
 WAITING = [frame(2, 100 + i, {1: 50}) for i in range(32)]
 
@@ -55,15 +58,22 @@ REFUSALS = bundle(
     frame(1, 0),  # 5
     frame(1, 10, {2: 0}),  # 6: an entry of 0
     frame(1, 10, {2: 5, 3: 10}),  # 6: an entry equal to the deadline
+    frame(1, LAST_DUE, {2: LAST_DUE}),  # 6: before 32
     frame(1, 10, payload=bytes(33)),  # 7
     frame(1, 10) + b"\0",  # 8
     frame(0, 10),  # 20
+    frame(0, LAST_DUE),  # 20: before 32
     frame(1, 10),  # taken
     frame(1, 10),  # 22: its deadline is the mark of its source
     frame(1, 9),  # 22: its deadline is below that mark
+    frame(3, LAST_DUE),  # 32
+    frame(3, FARTHEST_DUE + 1),  # 32
+    frame(3, FARTHEST_DUE),  # taken
     *WAITING,  # taken: they wait for 50 of panel 1
     WAITING[31],  # 22: it is waiting already
     frame(2, 200, {1: 50}),  # 23
+    frame(2, FARTHEST_DUE, {1: 50}),  # 23
+    frame(2, FARTHEST_DUE + 1, {1: 50}),  # 32: before 23
 )
 
 # The largest input, 65,535 bytes, of short frames: each is handed at once, and the last is too short to be one.

@@ -1,7 +1,8 @@
 /*
  * The calls as a C program sees them: bench cases 1, 2 and 4 to 11 of document 01, the first two
- * with the deadlines of document 02, W-203; beacons; every refusal and the order of refusals;
- * traces, of every frame that is received and of some more; and what a call leaves as it was.
+ * with the deadlines of document 02, W-203; beacons; deadlines far ahead; every refusal and the
+ * order of refusals; traces, of every frame that is received and of some more; and what a call
+ * leaves as it was.
  * Frames and log records are written in hexadecimal, by hand.
  */
 #include "checks.h"
@@ -649,6 +650,178 @@ static void beacon_as_a_send(void)
     same_given(&zero, &default_lifetime, &panels[5]);
 }
 
+/* ---- Deadlines far ahead ---- */
+
+/* 1,209,600 is hexadecimal 127500. */
+#define FROM_1_DUE_1209600 "445259 0001 01 00127500 0000000000000000 00"
+#define FROM_1_DUE_1209601 "445259 0001 01 00127501 0000000000000000 00"
+#define FROM_1_DUE_1209700 "445259 0001 01 00127564 0000000000000000 00"
+#define FROM_1_DUE_1209701 "445259 0001 01 00127565 0000000000000000 00"
+#define FROM_1_DUE_LAST "445259 0001 01 ffffffff 0000000000000000 00"
+
+static const Step far_ahead[] = {
+    /* at time 0, which a fresh panel has */
+    {__LINE__, RECEIVE, .at = 2, .bytes = FROM_1_DUE_1209601,
+     .number = PANEL_REFUSED_TOO_FAR_AHEAD},
+    {__LINE__, RECEIVE, .at = 2, .bytes = FROM_1_DUE_1209600, .log = {"01 00127500 00"},
+     .record = {.high = 1209600, .marks = {{1, 1209600}}, .barrier = {{1, 1209600}}}},
+    /* one above the sum is refused, the sum itself taken; a second later that one is taken too */
+    {__LINE__, CLOCK, .at = 3, .value = 100, .record = {.time = 100}},
+    {__LINE__, RECEIVE, .at = 3, .bytes = FROM_1_DUE_1209701,
+     .number = PANEL_REFUSED_TOO_FAR_AHEAD},
+    {__LINE__, RECEIVE, .at = 3, .bytes = FROM_1_DUE_1209700, .log = {"01 00127564 00"},
+     .record = {.time = 100, .high = 1209700, .marks = {{1, 1209700}}, .barrier = {{1, 1209700}}}},
+    {__LINE__, RECEIVE, .at = 3, .bytes = FROM_1_DUE_1209701,
+     .number = PANEL_REFUSED_TOO_FAR_AHEAD},
+    {__LINE__, CLOCK, .at = 3, .value = 101,
+     .record = {.time = 101, .high = 1209700, .marks = {{1, 1209700}}, .barrier = {{1, 1209700}}}},
+    {__LINE__, RECEIVE, .at = 3, .bytes = FROM_1_DUE_1209701, .log = {"01 00127565 00"},
+     .record = {.time = 101, .high = 1209701, .marks = {{1, 1209701}}, .barrier = {{1, 1209701}}}},
+    /* the last deadline: one above the sum, and a second later the sum */
+    {__LINE__, CLOCK, .at = 4, .value = 4293757694, .record = {.time = 4293757694}},
+    {__LINE__, RECEIVE, .at = 4, .bytes = FROM_1_DUE_LAST, .number = PANEL_REFUSED_TOO_FAR_AHEAD},
+    {__LINE__, CLOCK, .at = 4, .value = 4293757695, .record = {.time = 4293757695}},
+    {__LINE__, RECEIVE, .at = 4, .bytes = FROM_1_DUE_LAST, .log = {"01 ffffffff 00"},
+     .record = {.time = 4293757695, .high = 4294967295, .marks = {{1, 4294967295}},
+                .barrier = {{1, 4294967295}}}},
+    /* the sum would wrap round to 0: the deadline that equals the time, and the last one */
+    {__LINE__, CLOCK, .at = 5, .value = 4293757696, .record = {.time = 4293757696}},
+    {__LINE__, RECEIVE, .at = 5, .bytes = "445259 0001 01 ffed8b00 0000000000000000 00",
+     .log = {"01 ffed8b00 00"},
+     .record = {.time = 4293757696, .high = 4293757696, .marks = {{1, 4293757696}},
+                .barrier = {{1, 4293757696}}}},
+    {__LINE__, RECEIVE, .at = 5, .bytes = FROM_1_DUE_LAST, .log = {"01 ffffffff 00"},
+     .record = {.time = 4293757696, .high = 4294967295, .marks = {{1, 4294967295}},
+                .barrier = {{1, 4294967295}}}},
+    /* the last time */
+    {__LINE__, CLOCK, .at = 6, .value = 4294967295, .record = {.time = 4294967295}},
+    {__LINE__, RECEIVE, .at = 6, .bytes = FROM_1_DUE_LAST, .log = {"01 ffffffff 00"},
+     .record = {.time = 4294967295, .high = 4294967295, .marks = {{1, 4294967295}},
+                .barrier = {{1, 4294967295}}}},
+};
+
+/* Panel 2 takes the sum, so that high forces what it sends above it: a note and a beacon. Panel 4
+   refuses them at the same time, and takes them two seconds later. */
+#define NOTE_ABOVE "445259 0001 02 00127565 0000000000000002 00127564 01 6f"
+#define BEACON_ABOVE "445259 0001 02 00127566 0000000000000004 00127565 00"
+
+static const Step sent_far_ahead[] = {
+    {__LINE__, CLOCK, .at = 2, .value = 100, .record = {.time = 100}},
+    {__LINE__, RECEIVE, .at = 2, .bytes = FROM_1_DUE_1209700, .log = {"01 00127564 00"},
+     .record = {.time = 100, .high = 1209700, .marks = {{1, 1209700}}, .barrier = {{1, 1209700}}}},
+    {__LINE__, SEND, .at = 2, .bytes = "6f", .value = 1, .frame = NOTE_ABOVE,
+     .log = {"02 00127565 01 6f"},
+     .record = {.time = 100, .high = 1209701, .marks = {{1, 1209700}, {2, 1209701}},
+                .barrier = {{2, 1209701}}}},
+    {__LINE__, BEACON, .at = 2, .bytes = "", .frame = BEACON_ABOVE, .log = {"02 00127566 00"},
+     .record = {.time = 100, .high = 1209702, .marks = {{1, 1209700}, {2, 1209702}},
+                .barrier = {{2, 1209702}}}},
+    {__LINE__, CLOCK, .at = 4, .value = 100, .record = {.time = 100}},
+    {__LINE__, RECEIVE, .at = 4, .bytes = BEACON_ABOVE, .number = PANEL_REFUSED_TOO_FAR_AHEAD},
+    {__LINE__, RECEIVE, .at = 4, .bytes = NOTE_ABOVE, .number = PANEL_REFUSED_TOO_FAR_AHEAD},
+    {__LINE__, CLOCK, .at = 4, .value = 102, .record = {.time = 102}},
+    {__LINE__, RECEIVE, .at = 4, .bytes = BEACON_ABOVE,
+     .record = {.time = 102, .waiting = {BEACON_ABOVE}}},
+    {__LINE__, RECEIVE, .at = 4, .bytes = NOTE_ABOVE,
+     .record = {.time = 102, .waiting = {BEACON_ABOVE, NOTE_ABOVE}}},
+    {__LINE__, RECEIVE, .at = 4, .bytes = FROM_1_DUE_1209700,
+     .log = {"01 00127564 00", "02 00127565 01 6f", "02 00127566 00"},
+     .record = {.time = 102, .high = 1209702, .marks = {{1, 1209700}, {2, 1209702}},
+                .barrier = {{1, 1209700}, {2, 1209702}}}},
+};
+
+/* A message that is far ahead at time 100, and waits for one of panel 2 with deadline 200. */
+#define FAR_AFTER_2 "445259 0001 05 00127566 0000000000000004 000000c8 00"
+
+/* Panel 3 at time 100 with a record of an older version, which took what was far ahead:
+   FROM_1_DUE_1209701 is in its log, and FAR_AFTER_2 waits. They stay. Copies of them are 32, and 22
+   when the time is near enough. */
+static const Record far_ahead_taken = {
+    .time = 100, .high = 1209701, .marks = {{1, 1209701}}, .barrier = {{1, 1209701}},
+    .waiting = {FAR_AFTER_2}};
+
+static const Step far_ahead_stays[] = {
+    {__LINE__, RECEIVE, .at = 3, .bytes = FROM_1_DUE_1209701,
+     .number = PANEL_REFUSED_TOO_FAR_AHEAD},
+    {__LINE__, RECEIVE, .at = 3, .bytes = FAR_AFTER_2, .number = PANEL_REFUSED_TOO_FAR_AHEAD},
+    {__LINE__, CLOCK, .at = 3, .value = 100,
+     .record = {.time = 100, .high = 1209701, .marks = {{1, 1209701}}, .barrier = {{1, 1209701}},
+                .waiting = {FAR_AFTER_2}}},
+    {__LINE__, SEND, .at = 3, .bytes = "", .value = 0,
+     .frame = "445259 0001 03 00127566 0000000000000002 00127565 00", .log = {"03 00127566 00"},
+     .record = {.time = 100, .high = 1209702, .marks = {{1, 1209701}, {3, 1209702}},
+                .barrier = {{3, 1209702}}, .waiting = {FAR_AFTER_2}}},
+    {__LINE__, BEACON, .at = 3, .bytes = "",
+     .frame = "445259 0001 03 00127567 0000000000000008 00127566 00", .log = {"03 00127567 00"},
+     .record = {.time = 100, .high = 1209703, .marks = {{1, 1209701}, {3, 1209703}},
+                .barrier = {{3, 1209703}}, .waiting = {FAR_AFTER_2}}},
+    {__LINE__, CLOCK, .at = 3, .value = 102,
+     .record = {.time = 102, .high = 1209703, .marks = {{1, 1209701}, {3, 1209703}},
+                .barrier = {{3, 1209703}}, .waiting = {FAR_AFTER_2}}},
+    {__LINE__, RECEIVE, .at = 3, .bytes = FROM_1_DUE_1209701, .number = PANEL_REFUSED_HAD_ALREADY},
+    {__LINE__, RECEIVE, .at = 3, .bytes = FAR_AFTER_2, .number = PANEL_REFUSED_HAD_ALREADY},
+};
+
+/* What it waits for hands the one that is far ahead: the message, or a clock that passes it. */
+static const Step far_ahead_handed[] = {
+    {__LINE__, RECEIVE, .at = 3, .bytes = "445259 0001 02 000000c8 0000000000000000 00",
+     .log = {"02 000000c8 00", "05 00127566 00"},
+     .record = {.time = 100, .high = 1209702, .marks = {{1, 1209701}, {2, 200}, {5, 1209702}},
+                .barrier = {{1, 1209701}, {2, 200}, {5, 1209702}}}},
+    {__LINE__, CLOCK, .at = 3, .value = 201, .log = {"05 00127566 00"},
+     .record = {.time = 201, .high = 1209702, .marks = {{1, 1209701}, {5, 1209702}},
+                .barrier = {{1, 1209701}, {5, 1209702}}}},
+};
+
+static void already_far_ahead(void)
+{
+    start("far ahead already");
+    panels[3] = panel_of(3, &far_ahead_taken);
+    for (size_t i = 0; i < sizeof far_ahead_stays / sizeof far_ahead_stays[0]; i++)
+        step(&far_ahead_stays[i]);
+    for (size_t i = 0; i < sizeof far_ahead_handed / sizeof far_ahead_handed[0]; i++) {
+        panels[3] = panel_of(3, &far_ahead_taken);
+        step(&far_ahead_handed[i]);
+    }
+}
+
+/* Panel 2 at a time receives a message of panel 1 with a deadline. */
+static void receive_due(int line, uint32_t time, uint32_t deadline, PanelNumber number)
+{
+    char frame[64], log[16];
+    Step s = {line, RECEIVE, .at = 2, .bytes = frame, .number = number};
+    Panel p = panel_of(2, &(Record){.time = time});
+
+    snprintf(frame, sizeof frame, "445259 0001 01 %08x 0000000000000000 00", deadline);
+    snprintf(log, sizeof log, "01 %08x 00", deadline);
+    if (number == PANEL_ACCEPTED) {
+        s.log[0] = log;
+        s.record = (Record){.time = time, .high = deadline, .marks = {{1, deadline}},
+                            .barrier = {{1, deadline}}};
+    }
+    call(&s, &p);
+}
+
+/* At several times: the farthest deadline that is taken, one more, and the last of all. */
+static void farthest_deadlines(void)
+{
+    static const uint32_t times[] = {0, 1, 1209599, 1209600, 2147483647, 2147483648, 4292548095,
+                                     4293757693, 4293757694, 4293757695, 4293757696, 4294967294,
+                                     4294967295};
+
+    part = "the farthest deadlines";
+    for (size_t i = 0; i < sizeof times / sizeof times[0]; i++) {
+        uint32_t time = times[i], last = 4294967295;
+        bool far = last - time > PANEL_FARTHEST_AHEAD;
+        if (far) {
+            receive_due(__LINE__, time, time + PANEL_FARTHEST_AHEAD, PANEL_ACCEPTED);
+            receive_due(__LINE__, time, time + PANEL_FARTHEST_AHEAD + 1,
+                        PANEL_REFUSED_TOO_FAR_AHEAD);
+        }
+        receive_due(__LINE__, time, last, far ? PANEL_REFUSED_TOO_FAR_AHEAD : PANEL_ACCEPTED);
+    }
+}
+
 /* ---- Refusals ---- */
 
 /* The orders: in each row what the rows behind it are refused for applies too, as far as it can. */
@@ -740,7 +913,38 @@ static const Step receive_order[] = {
     {__LINE__, RECEIVE, .at = 3, .bytes = FROM_1_DUE_100, .number = PANEL_REFUSED_HAD_ALREADY},
 };
 
-/* With a full list: 20 and 22 before 23. A message that has lapsed is ready: never 21 and 23. */
+/* Panel 3 has a message of panel 1 in its log that is far ahead, so that 32 and 22 apply to that
+   one, and to one of its own 20 and 32; 21 and 32 never apply both. */
+static const Step far_order[] = {
+    {__LINE__, RECEIVE, .at = 3, .bytes = FROM_1_DUE_1209701, .broken = true, .output_more = -1,
+     .number = PANEL_REFUSED_RECORD_BROKEN},
+    {__LINE__, RECEIVE, .at = 3, .bytes = FROM_1_DUE_1209701, .output_more = -1,
+     .number = PANEL_REFUSED_BUFFER_SHORT},
+    {__LINE__, RECEIVE, .at = 3, .bytes = "445259 0001 01 00127565 0000000000000002 00127565 21",
+     .number = PANEL_REFUSED_FRAME_ENTRY},
+    {__LINE__, RECEIVE, .at = 3, .bytes = "445259 0001 01 00127565 0000000000000000 21",
+     .number = PANEL_REFUSED_FRAME_PAYLOAD_LENGTH},
+    {__LINE__, RECEIVE, .at = 3, .bytes = "445259 0001 01 00127565 0000000000000000 01",
+     .number = PANEL_REFUSED_FRAME_SHORT},
+    {__LINE__, RECEIVE, .at = 3, .bytes = FROM_1_DUE_1209701 "00",
+     .number = PANEL_REFUSED_FRAME_LEFT_OVER},
+    {__LINE__, RECEIVE, .at = 3, .bytes = "445259 0001 03 00127565 0000000000000000 00",
+     .number = PANEL_REFUSED_OWN_SOURCE},
+    {__LINE__, RECEIVE, .at = 3, .bytes = FROM_1_DUE_1209701,
+     .number = PANEL_REFUSED_TOO_FAR_AHEAD},
+    {__LINE__, RECEIVE, .at = 3, .bytes = FROM_1_DUE_1209700, .number = PANEL_REFUSED_HAD_ALREADY},
+};
+
+static void receive_far_order(void)
+{
+    start("order of receive, far ahead");
+    panels[3] = panel_of(3, &far_ahead_taken);
+    for (size_t i = 0; i < sizeof far_order / sizeof far_order[0]; i++)
+        step(&far_order[i]);
+}
+
+/* With a full list: 20, 32 and 22 before 23. A message that has lapsed is ready: never 21 and
+   23. */
 static void full_order(void)
 {
     start("order with a full list");
@@ -758,6 +962,11 @@ static void full_order(void)
                  PANEL_REFUSED_HAD_ALREADY);
     receive_full(__LINE__, "445259 0001 04 00000065 0000000000000002 00000032 00",
                  PANEL_REFUSED_LIST_FULL);
+    receive_full(__LINE__, "445259 0001 04 00127500 0000000000000002 00000032 00",
+                 PANEL_REFUSED_LIST_FULL);
+    receive_full(__LINE__, "445259 0001 04 00127501 0000000000000002 00000032 00",
+                 PANEL_REFUSED_TOO_FAR_AHEAD);
+    receive_full(__LINE__, FROM_1_DUE_1209601, PANEL_REFUSED_TOO_FAR_AHEAD);
 }
 
 /* ---- Broken records, and odd ones ---- */
@@ -893,6 +1102,10 @@ static void check_trace(int line, const Panel *given, const char *frame, PanelTr
 #define AFTER_3_7_9 "445259 0001 14 000003e8 0000000000000288 00000064 00000065 00000066 00"
 #define AFTER_0_63 "445259 0001 14 000003e8 8000000000000001 00000064 00000065 00"
 
+/* Far ahead at time 0: AFTER_3_7_9 with deadline 1,209,601, and one of panel 2. */
+#define FAR_AFTER_3_7_9 "445259 0001 14 00127501 0000000000000288 00000064 00000065 00000066 00"
+#define FAR_FROM_2_AFTER_1 "445259 0001 02 00127501 0000000000000002 00000064 00"
+
 /* What is traced at panel 2, and what the trace is to answer. */
 static const struct {
     int line;
@@ -938,6 +1151,19 @@ static const struct {
     {__LINE__, AFTER_3_7_9, {.high = 99, .marks = {{3, 100}}}, {26, false, 2}},
     {__LINE__, AFTER_3_7_9, {.time = 103, .high = 0, .barrier = {{3, 100}}}, {26, true, 3}},
     {__LINE__, FROM_1_DUE_100, {.waiting = {"00"}}, {26, true, 0}},
+    /* far ahead, as of own source, had by the mark or waiting already; a second later no more */
+    {__LINE__, FAR_FROM_2_AFTER_1, {.time = 0}, {20, false, 1}},
+    {__LINE__, FAR_AFTER_3_7_9, {.time = 0}, {32, false, 1}},
+    {__LINE__, FAR_AFTER_3_7_9, {.high = 102, .marks = {{3, 100}}}, {32, false, 2}},
+    {__LINE__, FAR_AFTER_3_7_9, {.high = 102, .marks = {{3, 100}, {7, 101}, {9, 102}}},
+     {32, true, 3}},
+    {__LINE__, FAR_AFTER_3_7_9, {.high = 1209601, .marks = {{20, 1209601}}}, {32, false, 1}},
+    {__LINE__, FAR_AFTER_3_7_9, {.waiting = {FAR_AFTER_3_7_9}}, {32, false, 1}},
+    {__LINE__, FAR_AFTER_3_7_9, {.time = 1}, {0, false, 1}},
+    {__LINE__, FAR_AFTER_3_7_9, {.time = 1, .waiting = {FAR_AFTER_3_7_9}}, {22, false, 1}},
+    {__LINE__, FROM_1_DUE_LAST, {.time = 4293757694}, {32, true, 0}},
+    {__LINE__, FROM_1_DUE_LAST, {.time = 4293757695}, {0, true, 0}},
+    {__LINE__, FROM_1_DUE_LAST, {.time = 4293757696}, {0, true, 0}},
 };
 
 /* Each hand-written trace; with 33 waiting the same is visited, and the number is 26. */
@@ -954,12 +1180,14 @@ static void hand_written_traces(void)
     }
 }
 
-/* With a full list: 23 for one that is not ready, whose trace is answered all the same. */
+/* With a full list: 23 for one that is not ready, whose trace is answered all the same; 32 if it is
+   far ahead. */
 static void full_traces(void)
 {
     start("traces with a full list");
     fill();
     check_trace(__LINE__, &panels[7], AFTER_3_7_9, (PanelTrace){23, false, 1});
+    check_trace(__LINE__, &panels[7], FAR_AFTER_3_7_9, (PanelTrace){32, false, 1});
     check_trace(__LINE__, &panels[7], FROM_1_DUE_100, (PanelTrace){0, true, 0});
     check_trace(__LINE__, &panels[7], full.bytes, (PanelTrace){22, false, 1});
 }
@@ -1141,14 +1369,14 @@ static void fresh_panels(void)
 
 static const struct {
     const char *name;
-    PanelNumber refusals[PANEL_REFUSED_RECORD_BROKEN]; /* that it can answer, up to the first 0 */
+    PanelNumber refusals[PANEL_REFUSED_TOO_FAR_AHEAD]; /* that it can answer, up to the first 0 */
 } calls[CALLS] = {
     [FRESH] = {"fresh", {11}},
     [SEND] = {"send", {9, 10, 24, 26}},
     [BEACON] = {"beacon", {9, 10, 24, 26}},
-    [RECEIVE] = {"receive", {1, 2, 3, 4, 5, 6, 7, 8, 10, 20, 21, 22, 23, 26}},
+    [RECEIVE] = {"receive", {1, 2, 3, 4, 5, 6, 7, 8, 10, 20, 21, 22, 23, 26, 32}},
     [CLOCK] = {"clock", {10, 25, 26}},
-    [TRACE] = {"trace", {1, 2, 3, 4, 5, 6, 7, 8, 20, 21, 22, 23, 26}},
+    [TRACE] = {"trace", {1, 2, 3, 4, 5, 6, 7, 8, 20, 21, 22, 23, 26, 32}},
 };
 
 /* Whether a call can answer a number: one of its refusals, or the 0 behind them. */
@@ -1165,7 +1393,7 @@ static void all_seen(void)
 {
     part = "numbers answered";
     for (Call by = FRESH; by < CALLS; by++) {
-        for (unsigned number = 0; number <= PANEL_REFUSED_RECORD_BROKEN; number++) {
+        for (unsigned number = 0; number < 256; number++) {
             bool can = can_answer(by, number);
             if (fails(seen[by][number] == can, __FILE__, __LINE__, calls[by].name))
                 printf(" %s %u\n", can ? "never answered" : "answered", number);
@@ -1190,10 +1418,15 @@ void test_calls(void)
     RUN("beacons", beacons);
     beacon_after_a_note();
     beacon_as_a_send();
+    RUN("far ahead", far_ahead);
+    RUN("sent far ahead", sent_far_ahead);
+    already_far_ahead();
+    farthest_deadlines();
     RUN("order of send", send_order);
     beacon_order();
     RUN("order of clock", clock_order);
     RUN("order of receive", receive_order);
+    receive_far_order();
     full_order();
     broken_records();
     whole_record();

@@ -84,6 +84,25 @@ static void trace()
     CHECK(cut.number == PANEL_REFUSED_FRAME_SHORT && !cut.ready && cut.visited == 0);
 }
 
+// The farthest deadline at time 1, one above what a fresh panel takes, as a note of panel 3.
+static void far_ahead()
+{
+    static Panel eight;
+    const uint32_t deadline = PANEL_FARTHEST_AHEAD + 1;
+    const uint8_t note[] = {0x44, 0x52, 0x59, 0, 1, 3, uint8_t(deadline >> 24),
+                            uint8_t(deadline >> 16), uint8_t(deadline >> 8), uint8_t(deadline),
+                            0, 0, 0, 0, 0, 0, 0, 0, 0};
+
+    CHECK(panel_fresh(&eight, 8) == PANEL_ACCEPTED);
+    CHECK(panel_trace(&eight, note, sizeof note).number == PANEL_REFUSED_TOO_FAR_AHEAD);
+    PanelAnswer early = panel_receive(&eight, note, sizeof note, output, sizeof output);
+    CHECK(early.number == PANEL_REFUSED_TOO_FAR_AHEAD && early.count == 0);
+    CHECK(panel_clock(&eight, 1, output, sizeof output).number == PANEL_ACCEPTED);
+    PanelAnswer again = panel_receive(&eight, note, sizeof note, output, sizeof output);
+    CHECK(again.number == PANEL_ACCEPTED && again.count == 1);
+    CHECK(panel_log_record(output, PANEL_LOG_RECORD, 0).deadline == deadline);
+}
+
 int main()
 {
     uint8_t bytes[2 + PANEL_FRAME_MAX] = {0, 21}, sent[PANEL_FRAME_MAX];
@@ -98,6 +117,7 @@ int main()
     receive(frame, length);
     beacon();
     trace();
+    far_ahead();
     CHECK(panel_bundle_next(&bundle, &frame, &length) == PANEL_BUNDLE_END && length == 0);
     CHECK(std::strcmp(panel_number_text(PANEL_REFUSED_LAPSED), "the message has lapsed") == 0);
     return EXIT_SUCCESS;

@@ -4,7 +4,7 @@
 
 use panel::{
     frame_check, log_record, log_records, Bundle, BundleBroken, LogRecord, Panel, Refusal, Trace,
-    LIFETIME_BEACON, LIFETIME_DEFAULT, LOG_RECORD,
+    FARTHEST_AHEAD, LIFETIME_BEACON, LIFETIME_DEFAULT, LOG_RECORD,
 };
 
 /// The records of a call that was accepted: source, deadline and payload of each.
@@ -105,6 +105,29 @@ fn refusals() -> Result<(), Refusal> {
     Ok(())
 }
 
+/// At time 0, and a second later; what high forces above the sum is sent, and refused by others.
+fn far_ahead() -> Result<(), Refusal> {
+    let refused = Some(Refusal::TooFarAhead);
+    let mut two = Panel::fresh(2)?;
+    let farthest = frame(1, FARTHEST_AHEAD, 0, &[]);
+    let above = frame(1, FARTHEST_AHEAD + 1, 0, &[]);
+    assert_eq!(two.receive(&above).err(), refused);
+    assert_eq!(two.trace(&above).refusal, refused);
+    assert_eq!(two.receive(&farthest)?.len(), 1);
+    let (sent, _) = two.send(b"", 0)?;
+    assert_eq!(sent[..], frame(2, FARTHEST_AHEAD + 1, 2, &[FARTHEST_AHEAD]));
+    assert_eq!(Panel::fresh(4)?.receive(&sent).err(), refused);
+    two.clock(1)?;
+    assert_eq!(two.trace(&above).refusal, None);
+    assert_eq!(two.receive(&above)?.len(), 1);
+    assert_eq!(Refusal::TooFarAhead.number(), 32);
+    assert_eq!(
+        Refusal::TooFarAhead.to_string(),
+        "its deadline is above time + 1,209,600"
+    );
+    Ok(())
+}
+
 /// 32 wait for a message of panel 1; the 33rd is refused, and then all are handed by one call.
 fn full_list() -> Result<(), Refusal> {
     let mut seven = Panel::fresh(7)?;
@@ -187,6 +210,7 @@ fn main() -> Result<(), Refusal> {
     beacons()?;
     receives()?;
     refusals()?;
+    far_ahead()?;
     full_list()?;
     traces()?;
     logs();

@@ -258,6 +258,7 @@ static const struct {
     {PANEL_REFUSED_RECORD_BROKEN,
      "the record has an own number above 63, a mark or barrier entry above high, over 32 waiting, "
      "or a waiting message that no readable frame carries"},
+    {PANEL_REFUSED_TOO_FAR_AHEAD, "its deadline is above time + 1,209,600"},
 };
 
 static void same_text(int line, const char *what, const char *given, const char *expected)
@@ -266,21 +267,21 @@ static void same_text(int line, const char *what, const char *given, const char 
         printf(" is \"%s\", expected \"%s\"\n", given, expected);
 }
 
-/* Each number has the words of document 01; all other numbers have the same words, and no two
-   numbers of document 01 do. */
+/* Each number has the words of document 01 or 02; all other numbers have the same words, and no
+   two that the header names do. */
 static void number_texts(void)
 {
     const char *none = panel_number_text((PanelNumber)12);
     size_t known = 0;
 
     part = "texts";
-    for (unsigned number = 0; number < 32; number++) {
+    for (unsigned number = 0; number < 256; number++) {
         bool listed = known < sizeof texts / sizeof texts[0] && texts[known].number == number;
         same_text(__LINE__, "text", panel_number_text((PanelNumber)number),
                   listed ? texts[known].text : none);
         known += listed;
     }
-    same_number(__LINE__, "count of texts", known, 19);
+    same_number(__LINE__, "count of texts", known, 20);
     for (size_t i = 0; i < known; i++) {
         const char *text = panel_number_text(texts[i].number);
         same_number(__LINE__, "a text is empty or that of no number",

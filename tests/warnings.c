@@ -34,6 +34,7 @@ int must_pass_on(PanelNumber number)
     case PANEL_REFUSED_DEADLINE_TOO_HIGH:
     case PANEL_REFUSED_CLOCK_BACK:
     case PANEL_REFUSED_RECORD_BROKEN:
+    case PANEL_REFUSED_TOO_FAR_AHEAD:
         return 0;
     }
     return 0;

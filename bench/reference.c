@@ -7,7 +7,7 @@
 #include "reference_frames.h"
 #include "reference_record.h"
 
-enum { DEFAULT_LIFETIME = 7200, BEACON_LIFETIME = 1200 };
+enum { DEFAULT_LIFETIME = 7200, BEACON_LIFETIME = 1200, FARTHEST_AHEAD = 1209600 };
 
 uint8_t c_frame_check(const uint8_t *frame, size_t length)
 {
@@ -100,6 +100,8 @@ uint8_t c_receive(Record *record, Slice frame, Buffer output, Written *written)
         return 20;
     if (message.deadline < record->time)
         return 21;
+    if (message.deadline - record->time > FARTHEST_AHEAD)
+        return 32;
     if (message.deadline <= record->marks[message.source] || is_waiting(record, &message))
         return 22;
 
@@ -148,6 +150,8 @@ static uint8_t number_of_trace(const Record *record, const Message *message, boo
         return 20;
     if (message->deadline < record->time)
         return 21;
+    if (message->deadline - record->time > FARTHEST_AHEAD)
+        return 32;
     if (message->deadline <= record->marks[message->source] || is_waiting(record, message))
         return 22;
     return !is_ready && record->count == WAITING_MAX ? 23 : 0;

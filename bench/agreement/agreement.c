@@ -23,6 +23,17 @@ static uint32_t some_deadline(const Panel *panel)
     return get32(panel->slots + PANEL_SLOT_BYTES * random_below((uint32_t)panel->count) + 8);
 }
 
+/* A reading about a deadline; mostly, if that is far ahead, about the first at which it is not. */
+static uint32_t reading_about(const Panel *panel, uint32_t deadline)
+{
+    int64_t near = (int64_t)deadline - PANEL_FARTHEST_AHEAD;
+    int64_t off = (int64_t)random_below(3) - 1;
+
+    if (near + 1 >= panel->time && chance(800))
+        return plus(0, near + off);
+    return plus(deadline, off);
+}
+
 static uint32_t random_reading(const Panel *panel)
 {
     uint32_t way = random_below(1000);
@@ -33,7 +44,7 @@ static uint32_t random_reading(const Panel *panel)
     if (way < 750)
         return plus(panel->time, random_below(1500));
     if (way < 900)
-        return plus(some_deadline(panel), (int64_t)random_below(3) - 1);
+        return reading_about(panel, some_deadline(panel));
     if (way < 990)
         return plus(panel->time, -1 - (chance(500) ? 0 : (int64_t)random_below(2000)));
     return way < 997 ? (uint32_t)random_64() : UINT32_MAX - random_below(2);

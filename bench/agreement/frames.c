@@ -118,6 +118,8 @@ static void forge(Bytes *frame, const Panel *panel)
         forge_awaited(&forged, panel);
     else if (chance(150)) /* at its source's mark or next to it */
         forged.deadline = plus(panel->marks[forged.source], (int64_t)random_below(3) - 1);
+    else if (chance(40)) /* above the farthest; rarely at it, as high then stays far ahead */
+        forged.deadline = plus(panel->time, PANEL_FARTHEST_AHEAD + (chance(100) ? 0 : 1));
     random_message(&message, panel, forged.source, forged.deadline, forged.mask);
     frame->length = c_frame_write(&message, frame->bytes);
 }

@@ -23,11 +23,13 @@ void random_panel(Panel *panel)
     any_bytes(panel);
     panel->own = (uint8_t)random_below(PANELS);
     panel->time = chance(900) ? random_below(60) : UINT32_MAX - random_below(80);
+    /* deadlines lie about the time, or about the farthest that is taken */
+    uint32_t about = plus(panel->time, chance(850) ? 0 : PANEL_FARTHEST_AHEAD);
     for (int s = 0; s < PANELS; s++) {
         if (chance(400))
-            panel->marks[s] = plus(panel->time, (int64_t)random_below(100) - 50);
+            panel->marks[s] = plus(about, (int64_t)random_below(100) - 50);
         if (chance(400))
-            panel->barrier[s] = plus(panel->time, (int64_t)random_below(100) - 50);
+            panel->barrier[s] = plus(about, (int64_t)random_below(100) - 50);
         if (panel->high < panel->marks[s])
             panel->high = panel->marks[s];
         if (panel->high < panel->barrier[s])
@@ -36,7 +38,7 @@ void random_panel(Panel *panel)
     panel->count = chance(300) ? 32 : random_below(33);
     for (size_t i = 0; i < panel->count; i++) {
         Message message;
-        uint32_t deadline = plus(panel->time, (int64_t)random_below(100) - 20);
+        uint32_t deadline = plus(about, (int64_t)random_below(100) - 20);
         uint64_t mask = random_mask();
         uint8_t source = (uint8_t)random_below(chance(500) ? 64 : 4);
         random_message(&message, panel, source, deadline, mask);

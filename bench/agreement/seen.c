@@ -36,7 +36,7 @@ static void print_numbers(void)
         unsigned long all = 0;
         for (int kind = 0; kind <= CHECK; kind++)
             all += seen[kind][number];
-        bool listed = number <= 11 || (number >= 20 && number <= 26);
+        bool listed = number <= 11 || (number >= 20 && number <= 26) || number == 32;
         if (all == 0 && !listed)
             continue;
         printf("%6d ", number);

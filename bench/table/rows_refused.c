@@ -36,6 +36,10 @@ static void with_none_waiting_rows(void)
     now.panel.time = 2001;
     row("receive refused, 21, 0 waiting", 21, 0);
     now.panel.time = 10;
+    Message far_ahead = usual(50, now.panel.time + PANEL_FARTHEST_AHEAD + 1);
+    to_receive(&far_ahead);
+    row("receive refused, 32, 0 waiting", 32, 0);
+    to_receive(&usual_one);
     now.panel.marks[50] = now.panel.high = 2000;
     row("receive refused, 22 by mark, 0 waiting", 22, 0);
     now.panel.own = PANELS;

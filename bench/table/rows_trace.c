@@ -51,7 +51,7 @@ static void with_some_waiting_rows(void)
 /* Those that a receive refuses. */
 static void refused_rows(void)
 {
-    Message ready = two_entries(41, 590), waits = two_entries(61, 700);
+    Message ready = two_entries(41, 590), waits = two_entries(61, 700), far_ahead = ready;
     Message shortest = plain(50, 2000, 0), largest = longest(50, 2000);
 
     empty();
@@ -61,6 +61,9 @@ static void refused_rows(void)
     to_trace(&largest);
     damaged(8);
     row("trace, 8, 308 bytes", 8, 0);
+    far_ahead.deadline = now.panel.time + PANEL_FARTHEST_AHEAD + 1;
+    to_trace(&far_ahead);
+    row("trace, 32, 2 entries, 0 waiting", 32, 2);
     to_trace(&ready);
     now.panel.marks[50] = now.panel.high = 2000;
     row("trace, 22 by mark, 2 entries, 0 waiting", 22, 2);

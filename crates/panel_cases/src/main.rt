@@ -1,6 +1,6 @@
 // Runs the calls by value, each accepted and each refused: bench cases 1, 2, 6 and 11 of document 01,
-// beacons, a trace of each frame before its receive, and a panel number above 63. It prints a line for each
-// call; the file stdout beside src/ is what it must print. (tests/ runs all bench cases, in place.)
+// beacons, one of them too far ahead, a trace of each frame before its receive, and a panel number above 63.
+// It prints a line for each call; the file stdout beside src/ is what it must print. (tests/ runs all bench cases, in place.)
 use by_value::Sent;
 use panel::Panel;
 use tracing::Trace;
@@ -129,8 +129,8 @@ fn main() {
     send(send(at(3, 100), b"OK", 0), b"", 0);
     print(b"a beacon\n");
     beacon(at(3, 100), b"OK");
-    print(b"beacons up to the last deadline\n");
-    beacon(beacon(at(0, 4294966095), b""), b"");
+    print(b"beacons up to the last deadline, too far ahead for a fresh panel\n");
+    beacon(beacon(at(3, 4294966095), b""), b"");
     print(b"case 6\n");
     send(send(at(0, 4294967294), b"", 1), b"", 1);
     print(b"case 11\n");

@@ -114,7 +114,7 @@ listed table each =
     ⊎-elim (λ e. inl (eqb-true (firstOf table) 0 e)) (λ e. inr e)
     (or-either (eqb (firstOf table) 0) (isRefusal (firstOf table)) (firstOf-each (λ n. eqb n 0 || isRefusal n) table refl each))
 
--- The answer is 0 or one of the numbers of document 01: that of a send, receive or clock call, of a frame check or reading, of fresh, and of a
+-- The answer is 0 or one of the numbers of documents 01 and 02: that of a send, receive or clock call, of a frame check or reading, of fresh, and of a
 -- trace.
 pub number-listed : (p : Panel) (call : Call) → Listed (defined p call .number)
 number-listed p call = rw (defined-number p call) (listed (checksOf p call) (checks-listed p call))

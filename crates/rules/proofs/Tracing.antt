@@ -48,7 +48,7 @@ module _ (p : Panel) (bytes output : List ℕ) (room : outputLength ≤ length o
   pub trace-number : trace p bytes .number ≡ defined p (receive bytes output) .number
   trace-number = trace-first p bytes ∙ checks-same ∙ sym (defined-number p (receive bytes output))
 
--- 0, or one of document 01's
+-- 0, or one of the numbers of documents 01 and 02
 pub trace-checks-listed : (p : Panel) (bytes : List ℕ) → eachNumber (λ n. eqb n 0 || isRefusal n) (traceChecks p bytes) ≡ true
 unfolding eachNumber traceChecks messageChecks checks
 trace-checks-listed p bytes = refl

@@ -6,8 +6,8 @@ use crate::hexadecimal;
 use crate::module;
 use crate::random::Random;
 use crate::second::bundle::{step, Kind};
-use crate::second::listing;
 use crate::second::log::fields;
+use crate::second::{listing, FARTHEST_AHEAD};
 use crate::side::Found;
 use std::io::Write;
 use std::path::Path;
@@ -141,15 +141,17 @@ pub fn listings(both: &mut Both, seed: u64, rounds: u64, program: &Path) -> Resu
     Ok(())
 }
 
-fn bundle_of(frames: &[Vec<u8>]) -> Vec<u8> {
+pub fn bundle_of(frames: &[Vec<u8>]) -> Vec<u8> {
     let with_length = |frame: &Vec<u8>| [&(frame.len() as u16).to_be_bytes()[..], frame].concat();
     frames.iter().flat_map(with_length).collect()
 }
 
-/// Frames that wait for each other, copies and damaged ones among them.
+/// Frames that wait for each other, copies and damaged ones among them. In some bundles the
+/// deadlines are about as high as a panel at time 0 takes them.
 fn listed_bundle(random: &mut Random) -> Vec<u8> {
     let sources = random.pick(&[2, 6, 64]);
-    let numbers: Vec<u32> = (0..8).map(|_| random.below(30) as u32).collect();
+    let least = random.pick(&[0, 0, FARTHEST_AHEAD - 15]);
+    let numbers: Vec<u32> = (0..8).map(|_| least + random.below(30) as u32).collect();
     let mut frames: Vec<Vec<u8>> = Vec::new();
     for place in 0..random.below(90) {
         let frame = compose::readable(random.below(sources) as u8, &numbers, random);

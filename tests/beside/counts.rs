@@ -3,10 +3,9 @@
 use crate::calls::Call;
 use crate::lists::Done;
 use crate::second::{Answer, Test};
+use std::collections::{BTreeMap, BTreeSet};
 use std::fmt::Write;
 
-/// Numbers go up to 26. Those above, which nothing should answer, are counted with 27.
-const NUMBERS: usize = 28;
 /// What answers a number, and which ones it has to answer in a run. It never answers another.
 const ASKED: [(&str, &[u8]); 7] = [
     ("fresh", &[0, 11]),
@@ -14,19 +13,24 @@ const ASKED: [(&str, &[u8]); 7] = [
     ("beacon", &[0, 9, 10, 24, 26]),
     (
         "receive",
-        &[0, 1, 2, 3, 4, 5, 6, 7, 8, 10, 20, 21, 22, 23, 26],
+        &[0, 1, 2, 3, 4, 5, 6, 7, 8, 10, 20, 21, 22, 23, 26, 32],
     ),
     ("clock", &[0, 10, 25, 26]),
-    ("trace", &[0, 1, 2, 3, 4, 5, 6, 7, 8, 20, 21, 22, 23, 26]),
+    (
+        "trace",
+        &[0, 1, 2, 3, 4, 5, 6, 7, 8, 20, 21, 22, 23, 26, 32],
+    ),
     ("check", &[0, 1, 2, 3, 4, 5, 6, 7, 8]),
 ];
 /// How many visits are counted apart; more are counted with the last.
 const VISITS: usize = 4;
+/// With so many calls of lists, messages have to have been sent far ahead and taken after a 32.
+const FAR_AHEAD_CALLS: u64 = 100_000;
 
 #[derive(Default)]
 pub struct Counts {
     /// For each that is asked, how often each number was answered.
-    answered: [[u64; NUMBERS]; ASKED.len()],
+    answered: [BTreeMap<u8, u64>; ASKED.len()],
     /// Log records that the calls wrote.
     records: u64,
     /// Messages that were taken and not handed by the same call.
@@ -80,7 +84,7 @@ impl Counts {
     }
 
     fn count(&mut self, asked: usize, number: u8) {
-        self.answered[asked][usize::from(number).min(NUMBERS - 1)] += 1;
+        *self.answered[asked].entry(number).or_default() += 1;
     }
 
     /// Counts the test of a trace.
@@ -92,20 +96,26 @@ impl Counts {
 
     /// All calls but traces and those of the frame check.
     pub fn calls(&self) -> u64 {
-        self.answered[..5].iter().flatten().sum()
+        self.answered[..5].iter().flat_map(BTreeMap::values).sum()
     }
 
-    /// Each number that was never answered where document 01 has it, or answered where it has none.
+    /// Each number that was never answered where documents 01 and 02 have it, or answered where
+    /// they have none, and what else should have come up.
     pub fn wrong(&self) -> Vec<String> {
         let mut wrong = self.missing_tests();
+        if self.lists.calls >= FAR_AHEAD_CALLS && self.lists.sent_far_ahead == 0 {
+            wrong.push("no list sent a message far ahead".to_string());
+        }
+        if self.lists.calls >= FAR_AHEAD_CALLS && self.lists.taken_later == 0 {
+            wrong.push("no list took a message that 32 had refused".to_string());
+        }
         for ((name, numbers), answered) in ASKED.iter().zip(&self.answered) {
-            for (number, count) in (0..).zip(answered) {
-                match (numbers.contains(&number), *count) {
-                    (true, 0) => wrong.push(format!("{name} never answered {number}")),
-                    (false, 1..) => wrong.push(format!("{name} answered {number}")),
-                    _ => {}
-                }
-            }
+            let missing = numbers
+                .iter()
+                .filter(|number| !answered.contains_key(number));
+            wrong.extend(missing.map(|number| format!("{name} never answered {number}")));
+            let others = answered.keys().filter(|number| !numbers.contains(number));
+            wrong.extend(others.map(|number| format!("{name} answered {number}")));
         }
         wrong
     }
@@ -130,13 +140,14 @@ impl Counts {
             _ = write!(text, "{name:>11}");
         }
         text.push('\n');
-        for number in 0..NUMBERS {
-            let row = self.answered.map(|answered| answered[number]);
-            if row.iter().any(|count| *count > 0) {
-                _ = write!(text, "{number:>8}");
-                row.iter().for_each(|count| _ = write!(text, "{count:>11}"));
-                text.push('\n');
+        let numbers: BTreeSet<&u8> = self.answered.iter().flat_map(BTreeMap::keys).collect();
+        for number in numbers {
+            _ = write!(text, "{number:>8}");
+            for answered in &self.answered {
+                let count = answered.get(number).copied().unwrap_or(0);
+                _ = write!(text, "{count:>11}");
             }
+            text.push('\n');
         }
         for (count, words) in self.rows() {
             _ = writeln!(text, "{count:>11} {words}");
@@ -145,7 +156,7 @@ impl Counts {
     }
 
     /// The counts below the table.
-    fn rows(&self) -> [(u64, &'static str); 21] {
+    fn rows(&self) -> [(u64, &'static str); 23] {
         let spoken = self.lists.spoken;
         let visited = |visits: usize| self.tests[0][visits] + self.tests[1][visits];
         [
@@ -160,13 +171,15 @@ impl Counts {
             (self.several, "calls that handed several messages"),
             (self.most_handed as u64, "most handed by one call"),
             (self.most_waiting as u64, "most waiting"),
-            (self.answered[5].iter().sum(), "traces"),
+            (self.answered[5].values().sum(), "traces"),
             (self.tests[1].iter().sum(), "traces that said ready"),
             (visited(0), "traces without a visit"),
             (visited(1), "traces with one visit"),
             (visited(2), "traces with two visits"),
             (visited(3), "traces with three visits or more"),
             (self.most_visited as u64, "most visits of one trace"),
+            (self.lists.sent_far_ahead, "messages sent far ahead"),
+            (self.lists.taken_later, "messages taken after a 32"),
             (self.lists.claim_checks, "checks of demand 3's claims"),
             (
                 spoken.messages,

@@ -1,24 +1,13 @@
 //! A farm: the panels of one list, the frames that they hold, and what can be done with them.
 
-use crate::bits::Bits;
 use crate::calls::Call;
 use crate::claims::{Claims, Spoken};
 use crate::compose;
+use crate::member::Member;
 use crate::plan::{Order, Plan};
 use crate::random::Random;
-use crate::second::{Answer, FRAME, OUTPUT};
+use crate::second::{Answer, FARTHEST_AHEAD, FRAME, OUTPUT};
 use crate::side::{Found, Side};
-
-/// A panel of the farm, with its clock and the frames that it can pass on.
-pub struct Member<Panel> {
-    pub panel: Panel,
-    pub number: u8,
-    pub time: u32,
-    /// What the panel's clock shows. It may go another way than that of other panels.
-    pub clock: u32,
-    held: Vec<usize>,
-    holds: Bits,
-}
 
 pub struct Farm<'side, S: Side> {
     side: &'side mut S,
@@ -30,6 +19,10 @@ pub struct Farm<'side, S: Side> {
     pub claims: Claims,
     pub calls: usize,
     pub claim_checks: u64,
+    /// Messages sent that were far ahead at their panel.
+    pub sent_far_ahead: u64,
+    /// Messages taken that had been refused there as far ahead.
+    pub taken_later: u64,
 }
 
 impl<'side, S: Side> Farm<'side, S> {
@@ -39,14 +32,9 @@ impl<'side, S: Side> Farm<'side, S> {
         random.shuffle(&mut numbers);
         let mut members = Vec::new();
         for number in numbers.into_iter().take(plan.panels) {
-            members.push(Member {
-                panel: side.fresh(number)?,
-                number,
-                time: 0,
-                clock: plan.clocks.first_reading(&mut random),
-                held: Vec::new(),
-                holds: Bits::default(),
-            });
+            let panel = side.fresh(number)?;
+            let clock = plan.clocks.first_reading(&mut random);
+            members.push(Member::new(panel, number, clock));
         }
         let claims = Claims::new(members.len());
         Ok(Farm {
@@ -58,6 +46,8 @@ impl<'side, S: Side> Farm<'side, S> {
             claims,
             calls: 0,
             claim_checks: 0,
+            sent_far_ahead: 0,
+            taken_later: 0,
         })
     }
 
@@ -75,8 +65,10 @@ impl<'side, S: Side> Farm<'side, S> {
                 Call::Send { .. } | Call::Beacon { .. } => {
                     let frame = self.side.frame();
                     let bytes = frame[..answer.length.min(frame.len())].to_vec();
+                    let far = member.far_ahead(compose::deadline_of(&bytes));
+                    self.sent_far_ahead += u64::from(far);
+                    member.hold(self.frames.len());
                     self.frames.push(bytes);
-                    self.hold(place, self.frames.len() - 1);
                 }
                 Call::Clock { reading, .. } => member.time = *reading,
                 Call::Receive { .. } | Call::Trace { .. } => {}
@@ -99,14 +91,6 @@ impl<'side, S: Side> Farm<'side, S> {
             let what = format!("demand 3, panel {}: {what}", member.number);
             Found::new(what).with(self.side.script(&member.panel))
         })
-    }
-
-    fn hold(&mut self, place: usize, frame: usize) {
-        let member = &mut self.members[place];
-        if !member.holds.has(frame) {
-            member.holds.insert(frame);
-            member.held.push(frame);
-        }
     }
 
     /// Buffers that are long enough.
@@ -132,8 +116,8 @@ impl<'side, S: Side> Farm<'side, S> {
         self.call(place, &call).map(|_| ())
     }
 
-    /// A panel's clock goes on and is read. At times it jumps, or shows the very deadline of a
-    /// message.
+    /// A panel's clock goes on and is read. At times it jumps, or shows the very second at which
+    /// something changes for a message.
     pub fn clock(&mut self, place: usize) -> Result<(), Found> {
         let step = self.random.below(self.plan.clock_step + 1) as u32;
         let member = &mut self.members[place];
@@ -144,8 +128,8 @@ impl<'side, S: Side> Farm<'side, S> {
         if self.random.chance(30) && !self.frames.is_empty() {
             let last = self.frames.len().min(12);
             let recent = self.frames.len() - 1 - self.random.below(last);
-            let edge = compose::deadline_of(&self.frames[recent]);
-            let edge = edge.saturating_add(self.random.below(2) as u32);
+            let deadline = compose::deadline_of(&self.frames[recent]);
+            let edge = self.plan.clocks.edge(deadline, &mut self.random);
             let near = edge >= member.time && edge - member.time <= self.plan.clocks.near();
             reading = if near { edge } else { reading };
         }
@@ -165,14 +149,15 @@ impl<'side, S: Side> Farm<'side, S> {
     /// Two panels meet: one passes frames on that it holds, own and carried. Some are lost.
     pub fn contact(&mut self, giver: usize, taker: usize) -> Result<(), Found> {
         let copies = self.random.pick(&[0, 0, 5, 25]);
-        let (holds, time) = (&self.members[taker].holds, self.members[taker].time);
+        let member = &self.members[taker];
         let mut passed = Vec::new();
         for frame in &self.members[giver].held {
             if self.held_back(*frame, taker) {
                 continue;
             }
-            let lapsed = compose::deadline_of(&self.frames[*frame]) < time;
-            let new = !holds.has(*frame) && (!lapsed || self.random.chance(20));
+            let deadline = compose::deadline_of(&self.frames[*frame]);
+            let refused = deadline < member.time || member.far_ahead(deadline);
+            let new = !member.holds(*frame) && (!refused || self.random.chance(20));
             if new || self.random.chance(copies) {
                 passed.push(*frame);
             }
@@ -187,13 +172,44 @@ impl<'side, S: Side> Farm<'side, S> {
             if self.random.chance(self.plan.lost) {
                 continue;
             }
-            let call = self.lent(Call::receive(&self.frames[frame]));
-            let answer = self.call(taker, &call)?;
-            // Refused for lack of places, it may be passed on again.
-            if answer.number != 23 {
-                self.hold(taker, frame);
+            self.pass(taker, frame)?;
+        }
+        Ok(())
+    }
+
+    /// A frame is passed on. Refused for lack of places, or as far ahead, it may be so again.
+    fn pass(&mut self, taker: usize, frame: usize) -> Result<(), Found> {
+        let call = self.lent(Call::receive(&self.frames[frame]));
+        let answer = self.call(taker, &call)?;
+        let member = &mut self.members[taker];
+        match answer.number {
+            23 => {}
+            32 => member.refused.push(frame),
+            _ => {
+                let later = answer.number == 0 && member.refused.contains(&frame);
+                self.taken_later += u64::from(later);
+                member.hold(frame);
             }
         }
         Ok(())
+    }
+
+    /// A clock call, after which a frame comes again that was refused as far ahead: in the last
+    /// second in which it is that, or in the next.
+    pub fn clock_and_pass(&mut self, place: usize) -> Result<(), Found> {
+        let member = &self.members[place];
+        if member.refused.is_empty() {
+            return self.clock(place);
+        }
+        let frame = self.random.pick(&member.refused);
+        let deadline = compose::deadline_of(&self.frames[frame]);
+        let before = FARTHEST_AHEAD + self.random.below(2) as u32;
+        let reading = deadline.saturating_sub(before);
+        if reading < member.time || reading - member.time > self.plan.clocks.near() {
+            return self.clock(place);
+        }
+        let call = self.lent(Call::clock(reading));
+        self.call(place, &call)?;
+        self.pass(place, frame)
     }
 }

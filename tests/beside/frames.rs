@@ -6,7 +6,7 @@ use crate::compare::Both;
 use crate::compose;
 use crate::module;
 use crate::random::Random;
-use crate::second::Message;
+use crate::second::{Message, FARTHEST_AHEAD};
 use crate::side::{Found, Side};
 
 /// Bytes of the longest random frame.
@@ -92,7 +92,8 @@ fn damaged_twice(both: &mut Both, frame: &[u8], random: &mut Random) -> Result<(
     Ok(())
 }
 
-/// The frame check and a receive of these bytes, with its trace.
+/// The frame check and a receive of these bytes, with its trace. The panel's time is 0 or, so that
+/// high deadlines are taken too, near a deadline that can be read.
 fn tried(both: &mut Both, bytes: &[u8], random: &mut Random) -> Result<(), Found> {
     let by_module = module::frame_check(bytes);
     let by_second = Message::read(bytes).err().unwrap_or(0);
@@ -103,6 +104,11 @@ fn tried(both: &mut Both, bytes: &[u8], random: &mut Random) -> Result<(), Found
         return Err(Found::new(what).within(call));
     }
     let mut pair = both.fresh(random.below(64) as u8)?;
+    if by_module == 0 && random.chance(80) {
+        let before = random.pick(&[0, 1, 100, FARTHEST_AHEAD, FARTHEST_AHEAD + 1]);
+        let reading = compose::deadline_of(bytes).saturating_sub(before);
+        both.call(&mut pair, &Call::clock(reading))?;
+    }
     let answer = both.call(&mut pair, &call)?;
     let refused_by_state = answer.number >= 20;
     match by_module == answer.number || by_module == 0 && refused_by_state {

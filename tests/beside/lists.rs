@@ -6,7 +6,7 @@ use crate::compose;
 use crate::farm::Farm;
 use crate::plan::Plan;
 use crate::random::Random;
-use crate::second::{FRAME, OUTPUT};
+use crate::second::{FARTHEST_AHEAD, FRAME, OUTPUT};
 use crate::side::{Found, Side};
 
 /// What was done in lists.
@@ -19,6 +19,9 @@ pub struct Done {
     pub claim_checks: u64,
     /// What the claims spoke of at the ends of the lists.
     pub spoken: Spoken,
+    /// Messages sent far ahead, and messages taken that had been refused as far ahead.
+    pub sent_far_ahead: u64,
+    pub taken_later: u64,
 }
 
 /// Makes lists until so many calls are made. If all are to be lawful, each keeps to the condition
@@ -41,6 +44,8 @@ pub fn run<S: Side>(side: &mut S, seed: u64, calls: u64, all_lawful: bool) -> Re
         done.spoken.waiting += spoken.waiting;
         done.calls += farm.calls as u64;
         done.claim_checks += farm.claim_checks;
+        done.sent_far_ahead += farm.sent_far_ahead;
+        done.taken_later += farm.taken_later;
         done.void += u64::from(farm.claims.void);
     }
     Ok(done)
@@ -72,6 +77,7 @@ impl<S: Side> Farm<'_, S> {
             match kind {
                 0 => self.send(place)?,
                 1 if other != place => self.contact(other, place)?,
+                2 if self.random.chance(30) => self.clock_and_pass(place)?,
                 2 => self.clock(place)?,
                 3 => self.odd(place)?,
                 4 => self.forged(place)?,
@@ -120,7 +126,11 @@ impl<S: Side> Farm<'_, S> {
     /// A frame that nobody sent, with numbers of this farm in it.
     fn forged(&mut self, place: usize) -> Result<(), Found> {
         let random = &mut self.random;
-        let mut numbers = vec![self.members[place].time, random.any_size()];
+        let time = self.members[place].time;
+        let mut numbers = vec![time, random.any_size()];
+        if random.chance(20) {
+            numbers.push(time.saturating_add(FARTHEST_AHEAD));
+        }
         for _ in 0..6.min(self.frames.len()) {
             let frame = &self.frames[random.below(self.frames.len())];
             numbers.push(compose::deadline_of(frame));

@@ -1,6 +1,7 @@
 //! A second implementation beside the module: makes the same calls on both and compares them, and
 //! checks the claims of demand 3 on what the module wrote.
 
+mod ahead;
 mod beacons;
 mod bits;
 mod bundles;
@@ -15,6 +16,7 @@ mod frames;
 mod hexadecimal;
 mod kept;
 mod lists;
+mod member;
 mod module;
 mod plan;
 mod random;
@@ -24,6 +26,7 @@ mod same;
 mod script;
 mod second;
 mod side;
+mod stays;
 mod traces;
 mod trials;
 
@@ -81,18 +84,15 @@ fn options() -> Option<Options> {
 
 /// All parts, without faults: those that are soon done come first.
 fn compare_all(options: &Options, both: &mut Both) -> Result<(), Found> {
-    let Options {
-        seed,
-        calls,
-        ref list,
-        ..
-    } = *options;
+    let (seed, calls, list) = (options.seed, options.calls, &options.list);
     let part = |name: &'static str, words: &str| {
         println!("{name}: {words}");
         move |found: Found| found.within(format!("part {name}"))
     };
     let named = part("cases", "bench cases 1 to 12, beacons and traces");
     cases::run(both, list).map_err(named)?;
+    let named = part("ahead", "deadlines far ahead");
+    ahead::run(both, list).map_err(named)?;
     let named = part("bundles", "bundles at every place, and logs at every index");
     bundles::readers(both, seed, calls / 1_000 + 1).map_err(named)?;
     let named = part(

@@ -1,7 +1,7 @@
 //! What kind of list is made: how many panels and calls, how the clocks go, who passes what on.
 
 use crate::random::Random;
-use crate::second::{BEACON_LIFETIME, DEFAULT_LIFETIME};
+use crate::second::{BEACON_LIFETIME, DEFAULT_LIFETIME, FARTHEST_AHEAD};
 
 /// How far the clocks of the panels are apart.
 #[derive(Clone, Copy)]
@@ -14,6 +14,16 @@ pub enum Clocks {
     Wide,
     /// Near the last second.
     Last,
+    /// About 14 days, or twice that.
+    Weeks,
+    /// The same, up to the last second.
+    LastWeeks,
+}
+
+/// No seconds, those of 14 days or twice as many, and some more.
+fn weeks(random: &mut Random) -> u32 {
+    let more = random.pick(&[40, 4_000, 24_000]);
+    random.below(3) as u32 * FARTHEST_AHEAD + random.below(more) as u32
 }
 
 impl Clocks {
@@ -27,16 +37,29 @@ impl Clocks {
                 let before = random.pick(&[40, 4_000, 24_000]);
                 u32::MAX - random.below(before) as u32
             }
+            Clocks::Weeks => weeks(random),
+            Clocks::LastWeeks => u32::MAX - weeks(random),
         }
     }
 
-    /// How far ahead a deadline may be to be set as a time.
+    /// The last time at which a message of this deadline has not lapsed or, where clocks are so far
+    /// apart, at which it is far ahead; or the second after it.
+    pub fn edge(self, deadline: u32, random: &mut Random) -> u32 {
+        let far = matches!(self, Clocks::Wide | Clocks::Weeks | Clocks::LastWeeks);
+        let last = match far && random.chance(50) {
+            true => deadline.saturating_sub(FARTHEST_AHEAD + 1),
+            false => deadline,
+        };
+        last.saturating_add(random.below(2) as u32)
+    }
+
+    /// How far ahead an edge may be to be set as a time.
     pub fn near(self) -> u32 {
         match self {
             Clocks::Near => 20,
             Clocks::Apart => 7_500,
             Clocks::Wide => u32::MAX,
-            Clocks::Last => 24_000,
+            Clocks::Last | Clocks::Weeks | Clocks::LastWeeks => 24_000,
         }
     }
 }
@@ -119,13 +142,13 @@ fn calls(random: &mut Random) -> usize {
 
 impl Plan {
     pub fn any(random: &mut Random, lawful: bool) -> Plan {
-        use Clocks::{Apart, Last, Near, Wide};
+        use Clocks::{Apart, Last, LastWeeks, Near, Weeks, Wide};
         use Order::{Any, NewestFirst, OldestFirst};
         let mut plan = Plan {
             panels: panels(random),
             calls: calls(random),
             lawful,
-            clocks: random.pick(&[Near, Near, Apart, Apart, Wide, Last]),
+            clocks: random.pick(&[Near, Near, Apart, Apart, Wide, Last, Weeks, LastWeeks]),
             clock_step: random.pick(&[0, 1, 3, 30]),
             jumps: random.pick(&[0, 0, 0, 2]),
             lifetimes: random.pick(&[Lifetimes::Short, Lifetimes::Default, Lifetimes::Any]),
@@ -150,7 +173,7 @@ impl Plan {
     fn fills_up(&mut self, random: &mut Random) {
         self.panels = random.between(2, 6);
         self.calls = self.calls.max(200);
-        self.clocks = random.pick(&[Clocks::Near, Clocks::Apart, Clocks::Wide]);
+        self.clocks = random.pick(&[Clocks::Near, Clocks::Apart, Clocks::Wide, Clocks::Weeks]);
         self.clock_step = 1;
         self.lifetimes = random.pick(&[Lifetimes::Default, Lifetimes::Any]);
         self.order = Order::NewestFirst;

@@ -7,7 +7,7 @@ use crate::compare::Both;
 use crate::compose;
 use crate::kept::Kept;
 use crate::random::Random;
-use crate::second::{FRAME, OUTPUT, WAITING};
+use crate::second::{FARTHEST_AHEAD, FRAME, OUTPUT, WAITING};
 use crate::side::{Found, Side};
 
 /// The ways in which a record is broken.
@@ -49,12 +49,12 @@ pub fn run(both: &mut Both, seed: u64, records: u64) -> Result<(), Found> {
     Ok(())
 }
 
-/// A few times and deadlines, some next to each other.
+/// A few times and deadlines, some next to each other and some about 14 days apart.
 fn numbers(random: &mut Random) -> Vec<u32> {
     let middle = match random.below(3) {
         0 => random.below(10) as u32,
         1 => {
-            let before = random.pick(&[0, 0, 1200, 7200]);
+            let before = random.pick(&[0, 0, 1200, 7200, FARTHEST_AHEAD, FARTHEST_AHEAD]);
             u32::MAX - before - random.below(10) as u32
         }
         _ => random.any_size(),
@@ -65,6 +65,9 @@ fn numbers(random: &mut Random) -> Vec<u32> {
     numbers.push(middle.saturating_add(random.below(9000) as u32));
     let lifetime = random.pick(&LIFETIMES);
     numbers.push(middle.saturating_add(u32::from(lifetime)));
+    if random.chance(50) {
+        numbers.push(near(FARTHEST_AHEAD as usize + random.below(7)));
+    }
     numbers
 }
 

@@ -9,10 +9,10 @@ use crate::second::{Answer, Test};
 use crate::side::{Found, Side};
 
 /// What a trace has to answer: number, ready and visited.
-type Expected = (u8, bool, usize);
+pub type Expected = (u8, bool, usize);
 
 /// Entries of a frame, or marks of a record: panel and deadline.
-type Entries<'entries> = &'entries [(u8, u32)];
+pub type Entries<'entries> = &'entries [(u8, u32)];
 
 pub fn run(both: &mut Both) -> Result<(), Found> {
     written_out(both)?;
@@ -27,7 +27,7 @@ pub fn run(both: &mut Both) -> Result<(), Found> {
 }
 
 /// Panel 0 at this time, with these marks.
-fn panel(time: u32, marks: Entries) -> Kept {
+pub fn panel(time: u32, marks: Entries) -> Kept {
     let mut kept = Kept::at(0, time);
     for (panel, mark) in marks {
         kept.marks[usize::from(*panel)] = *mark;
@@ -52,7 +52,12 @@ fn zero_with(frames: Vec<Vec<u8>>) -> Kept {
 
 /// A trace on this record answers as expected. A receive is then made too, and with it the trace
 /// once more.
-fn answers(both: &mut Both, kept: &Kept, bytes: &[u8], expected: Expected) -> Result<(), Found> {
+pub fn answers(
+    both: &mut Both,
+    kept: &Kept,
+    bytes: &[u8],
+    expected: Expected,
+) -> Result<(), Found> {
     let (number, ready, visited) = expected;
     let expected = Answer {
         number,

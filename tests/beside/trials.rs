@@ -4,7 +4,7 @@ use crate::compare::Both;
 use crate::random::Random;
 use crate::second::faults::{plant, Fault, FAULTS};
 use crate::side::{Alone, Found};
-use crate::{bundles, cases, frames, lists, records};
+use crate::{ahead, bundles, cases, frames, lists, records};
 use std::path::Path;
 use std::sync::atomic::{AtomicUsize, Ordering};
 use std::sync::Mutex;
@@ -46,6 +46,11 @@ const BREAK_DEMAND_3: &[Fault] = &[
     Fault::BeaconWithoutEntries,
     Fault::BeaconLeavesBarrier,
     Fault::BeaconNotInBarrier,
+    Fault::FarAheadWaits,
+    Fault::RefusedFarAheadRaisesMark,
+    Fault::SendStopsFarAhead,
+    Fault::FarAheadHighLeftOut,
+    Fault::FarAheadEntriesStripped,
     Fault::WaitingCopyTaken,
     Fault::LoggedCopyTaken,
     Fault::MaskFromTheTop,
@@ -70,6 +75,7 @@ struct Tried {
 fn run_part(part: &str, long: u64, both: &mut Both, seed: u64, list: &Path) -> Result<(), Found> {
     match part {
         "cases" => cases::run(both, list),
+        "ahead" => ahead::run(both, list),
         "frames" => frames::run(both, seed, long),
         "records" => records::run(both, seed ^ long, long),
         "bundles" => bundles::readers(both, seed, long),
@@ -83,6 +89,7 @@ fn run_part(part: &str, long: u64, both: &mut Both, seed: u64, list: &Path) -> R
 fn compared(fault: Option<Fault>, seed: u64, list: &Path) -> Option<Noticed> {
     let parts = [
         ("cases", 1),
+        ("ahead", 1),
         ("frames", 1),
         ("bundles", 80),
         ("lists", 2_000),

@@ -1,9 +1,13 @@
 //! Receive and clock: the source's codes 5 and 11, with document 01's refusals in front.
 
+use super::ahead::misplaced;
 use super::delivery::raise;
-use super::faults::{planted, Fault};
+use super::faults::{planted, which, Fault};
 use super::log::Log;
 use super::{accepted, first, refused, Answer, Message, Panel, OUTPUT, WAITING};
+
+/// The checks of the state, in their order: the number, and whether it applies.
+pub type Checks = [(u8, bool); 5];
 
 /// Whether an output is too short.
 pub fn short(output: &[u8]) -> bool {
@@ -23,6 +27,9 @@ impl Panel {
         if planted(Fault::FrameBeforeShortOutput) {
             checks.swap(1, 2);
         }
+        if self.refused_too_soon(frame, &reading) {
+            return refused(32);
+        }
         let message = match (first(checks), reading) {
             (Some(number), _) | (None, Err(number)) => return refused(number),
             (None, Ok(message)) => message,
@@ -30,12 +37,21 @@ impl Panel {
         let ready = self.test(&message).ready;
         match first(self.state_checks(&message, ready)) {
             Some(number) => {
-                if planted(Fault::RefusedLapsedRaisesMark) && number == 21 {
-                    raise(&mut self.delivered, message.source, message.deadline);
-                }
+                self.change_by_refusal(&message, number);
                 refused(number)
             }
             None => self.accept(|panel| panel.take(message, ready, output)),
+        }
+    }
+
+    /// What planted faults change by a refusal.
+    fn change_by_refusal(&mut self, message: &Message, number: u8) {
+        match (which(), number) {
+            (Some(Fault::RefusedLapsedRaisesMark), 21) => {
+                raise(&mut self.delivered, message.source, message.deadline)
+            }
+            (_, 32) => self.change_by_far_ahead(message),
+            _ => {}
         }
     }
 
@@ -66,11 +82,13 @@ impl Panel {
         if planted(Fault::SettledBeforeHanding) {
             self.check_pending_messages(&mut log);
         }
-        let ready = ready && !planted(Fault::EveryMessageHeldBack);
+        let ready =
+            ready && !planted(Fault::EveryMessageHeldBack) && !self.wrongly_held_back(&message);
         match ready || planted(Fault::HandedOnArrival) {
             true => self.perform_delivery(&message, &mut log),
             false => self.wait(message),
         }
+        self.drop_far_ahead(Fault::ReceiveDropsFarAhead);
         self.check_pending_messages(&mut log);
         accepted(log.count(), 0)
     }
@@ -89,11 +107,11 @@ impl Panel {
         let waiting = self.pending.iter().any(|pending| {
             pending.message.source == message.source && pending.message.deadline == message.deadline
         });
-        waiting && !planted(Fault::WaitingCopyTaken)
+        waiting && !planted(Fault::WaitingCopyTaken) || self.wrongly_had(message)
     }
 
     /// Why a readable message is turned down because of the state: the checks, in their order.
-    pub fn state_checks(&self, message: &Message, ready: bool) -> [(u8, bool); 4] {
+    pub fn state_checks(&self, message: &Message, ready: bool) -> Checks {
         let lapsed = match planted(Fault::LapsedAtEqualTime) {
             true => message.deadline <= self.time,
             false => message.deadline < self.time,
@@ -101,15 +119,16 @@ impl Panel {
         let full = self.pending.len() + self.lost_places >= WAITING
             || planted(Fault::FullWithPlacesFree)
             || planted(Fault::FullWithThirtyOne) && self.pending.len() + 1 == WAITING;
-        [
+        misplaced([
             (
                 20,
                 message.source == self.own && !planted(Fault::OwnSourceTaken),
             ),
             (21, lapsed),
+            (32, self.too_far_ahead(message, ready)),
             (22, self.logged(message) || self.waits(message)),
             (23, full && (!ready || planted(Fault::FullBeforeReady))),
-        ]
+        ])
     }
 
     /// Sets the time, drops the lapsed waiting messages and settles.
@@ -121,6 +140,7 @@ impl Panel {
             self.check_pending_messages(&mut log);
         }
         self.drop_lapsed(&mut log);
+        self.change_by_clock();
         self.forget_expired_messages();
         if !planted(Fault::ClockDoesNotSettle) {
             self.check_pending_messages(&mut log);

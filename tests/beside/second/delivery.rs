@@ -75,6 +75,9 @@ impl Panel {
             expunge_expired_predecessors(&mut left, self.time);
         }
         expunge_delivered_predecessors(&mut left, &self.delivered);
+        if planted(Fault::FarAheadEntryMet) {
+            left.retain(|_, entry| !self.far_ahead(*entry));
+        }
         left
     }
 
@@ -142,7 +145,10 @@ impl Panel {
     /// The place of the ready message that goes first: lowest deadline, then lowest source, then
     /// earliest in the list.
     fn next_ready(&self) -> Option<usize> {
-        let places = (0..self.pending.len()).filter(|place| self.pending[*place].ready());
+        let places = (0..self.pending.len()).filter(|place| {
+            let pending = &self.pending[*place];
+            pending.ready() && !self.wrongly_held_back(&pending.message)
+        });
         let known = |place: usize| {
             let message = &self.pending[place].message;
             (message.deadline, message.source)

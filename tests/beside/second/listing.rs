@@ -16,6 +16,7 @@ pub fn listing(input: &[u8]) -> String {
         return "long\n".to_string();
     }
     let mut panel = fresh(u8::from(planted(Fault::ListFeedsPanelOne))).0;
+    panel.time = u32::from(planted(Fault::ListFeedsAtTimeOne));
     let mut text = String::new();
     let mut place = 0;
     for number in u32::from(!planted(Fault::ListCountsFromZero)).. {

@@ -2,6 +2,7 @@
 //! document 02 and, for the algorithm, from codes 1 to 13 of source document 004. It shares nothing
 //! with the module. Simple and slow code is preferred here over clever code.
 
+mod ahead;
 pub mod bundle;
 mod calls;
 mod delivery;
@@ -37,6 +38,9 @@ pub const DEFAULT_LIFETIME: u16 = 7200;
 /// The lifetime of a beacon. Document 02, W-203: "give it a call of its own, which answers in
 /// everything as a send with lifetime 1,200".
 pub const BEACON_LIFETIME: u16 = 1200;
+/// How many seconds a received deadline may be above the time. Document 02, W-205: "A received
+/// deadline above time + 1,209,600 (14 days) is now refused."
+pub const FARTHEST_AHEAD: u32 = 1_209_600;
 
 /// What the test for ready answers: whether the message is ready, and how many of its entries were
 /// visited.

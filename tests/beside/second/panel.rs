@@ -39,6 +39,8 @@ pub struct Panel {
     unreadable: usize,
     /// Places of the list that are never used again: none, but for a planted fault.
     pub lost_places: usize,
+    /// Messages that are never taken: none, but for a planted fault.
+    pub turned_down: Vec<(u8, u32)>,
 }
 
 /// A fresh panel, and the number that it is answered with.
@@ -53,6 +55,7 @@ pub fn fresh(number: u8) -> (Panel, u8) {
         excess: 0,
         unreadable: 0,
         lost_places: 0,
+        turned_down: Vec::new(),
     };
     let last = PANELS - 1 + u8::from(planted(Fault::FreshSixtyFourTaken));
     if number <= last {
@@ -132,6 +135,7 @@ impl Panel {
             || above(&self.barrier) && !planted(Fault::BarrierAboveHighLetThrough)
             || excess > 0
             || self.unreadable > 0 && !planted(Fault::UnreadableLetThrough)
+            || self.wrongly_broken()
     }
 
     /// The 64 marks.

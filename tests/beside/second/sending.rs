@@ -91,6 +91,7 @@ impl Panel {
             (10, self.short_of_room(note, output, frame)),
             (9, note.payload().len() > longest),
             (24, deadline > last),
+            (32, self.wrongly_refused(note.beacon, deadline)),
         ]);
         match number {
             Some(number) => refused(number),
@@ -122,7 +123,7 @@ impl Panel {
             return by_clock;
         }
         let above = u64::from(!planted(Fault::DeadlineNotAboveHigh));
-        let deadline = by_clock.max(u64::from(self.high) + above);
+        let deadline = self.mistaken_deadline(by_clock.max(u64::from(self.high) + above), by_clock);
         match note.wrong(Fault::BeaconStopsAtTheLast) {
             true => deadline.min(u64::from(u32::MAX)),
             false => deadline,
@@ -137,6 +138,9 @@ impl Panel {
         let mut predecessors = self.barrier.clone();
         if planted(Fault::LapsedEntriesStripped) {
             predecessors.retain(|_, entry| *entry >= self.time);
+        }
+        if planted(Fault::FarAheadEntriesStripped) {
+            predecessors.retain(|_, entry| !self.far_ahead(*entry));
         }
         if planted(Fault::OwnMessageInItsBarrier) {
             predecessors.insert(self.own, deadline);
@@ -175,6 +179,7 @@ impl Panel {
             self.check_pending_messages(&mut log);
         }
         self.hand_own(note, &message, &mut log);
+        self.drop_far_ahead(Fault::SendDropsFarAhead);
         if !planted(Fault::SendDoesNotSettle) && !note.wrong(Fault::BeaconDoesNotSettle) {
             self.check_pending_messages(&mut log);
         }

@@ -1,6 +1,7 @@
 //! Trace: what a receive of a frame would answer, and how far its test for ready goes. Document 02,
 //! W-202: the test is to "also answer how many it visited".
 
+use super::calls::Checks;
 use super::delivery::raise;
 use super::faults::{planted, which, Fault};
 use super::log::Log;
@@ -42,21 +43,28 @@ impl Panel {
     }
 
     /// The checks of the state: those of a receive, but for planted faults.
-    fn traced_checks(&self, message: &Message, ready: bool) -> [(u8, bool); 4] {
+    fn traced_checks(&self, message: &Message, ready: bool) -> Checks {
         let ready = ready && !planted(Fault::TraceFullBeforeReady);
         let mut checks = self.state_checks(message, ready);
         match which() {
             Some(Fault::TraceLapsedBeforeOwnSource) => checks.swap(0, 1),
-            Some(Fault::TraceHadBeforeLapsed) => checks.swap(1, 2),
-            Some(Fault::TraceFullBeforeHad) => checks.swap(2, 3),
+            Some(Fault::TraceFarAheadBeforeOwnSource) => checks[..3].rotate_right(1),
+            Some(Fault::TraceHadBeforeLapsed) => checks.swap(1, 3),
+            Some(Fault::TraceHadBeforeFarAhead) => checks.swap(2, 3),
+            Some(Fault::TraceFullBeforeFarAhead) => checks[2].1 &= !checks[4].1,
+            Some(Fault::TraceFullBeforeHad) => checks.swap(3, 4),
             Some(Fault::TraceForgetsOwnSource) => checks[0].1 = false,
             Some(Fault::TraceForgetsLapsed) => checks[1].1 = false,
             Some(Fault::TraceLapsedAtEqualTime) => checks[1].1 = message.deadline <= self.time,
-            Some(Fault::TraceForgetsMark) => checks[2].1 = self.waits(message),
-            Some(Fault::TraceForgetsWaiting) => checks[2].1 = self.logged(message),
-            Some(Fault::TraceForgetsFull) => checks[3].1 = false,
+            Some(Fault::TraceForgetsFarAhead) => checks[2].1 = false,
+            Some(Fault::TraceFarthestAheadRefused) => {
+                checks[2].1 = self.far_ahead(message.deadline.saturating_add(1))
+            }
+            Some(Fault::TraceForgetsMark) => checks[3].1 = self.waits(message),
+            Some(Fault::TraceForgetsWaiting) => checks[3].1 = self.logged(message),
+            Some(Fault::TraceForgetsFull) => checks[4].1 = false,
             Some(Fault::TraceFullWithThirtyOne) => {
-                checks[3].1 = !ready && self.pending.len() + 1 >= WAITING
+                checks[4].1 = !ready && self.pending.len() + 1 >= WAITING
             }
             _ => {}
         }
@@ -166,6 +174,8 @@ fn answered(number: u8, test: Test) -> Test {
         Some(Fault::ReadyOnlyWhereTaken) if number != 0 => Test { visited, ..nothing },
         Some(Fault::VisitsOnlyWhereTaken) if number != 0 => Test { ready, ..nothing },
         Some(Fault::BrokenTracedWithoutTest) if number == 26 => nothing,
+        Some(Fault::FarAheadTracedNotReady) if number == 32 => Test { visited, ..nothing },
+        Some(Fault::FarAheadTracedWithoutVisits) if number == 32 => Test { ready, ..nothing },
         _ => test,
     }
 }

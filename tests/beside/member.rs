@@ -1,0 +1,47 @@
+//! The panels of a farm, each with what it needs to take part in a list.
+
+use crate::bits::Bits;
+use crate::second::FARTHEST_AHEAD;
+
+/// A panel of the farm, with its clock and the frames that it can pass on.
+pub struct Member<Panel> {
+    pub panel: Panel,
+    pub number: u8,
+    pub time: u32,
+    /// What the panel's clock shows. It may go another way than that of other panels.
+    pub clock: u32,
+    pub held: Vec<usize>,
+    holds: Bits,
+    /// Frames that were refused here as far ahead.
+    pub refused: Vec<usize>,
+}
+
+impl<Panel> Member<Panel> {
+    pub fn new(panel: Panel, number: u8, clock: u32) -> Self {
+        Member {
+            panel,
+            number,
+            time: 0,
+            clock,
+            held: Vec::new(),
+            holds: Bits::default(),
+            refused: Vec::new(),
+        }
+    }
+
+    pub fn holds(&self, frame: usize) -> bool {
+        self.holds.has(frame)
+    }
+
+    pub fn hold(&mut self, frame: usize) {
+        if !self.holds.has(frame) {
+            self.holds.insert(frame);
+            self.held.push(frame);
+        }
+    }
+
+    /// Whether a deadline is far ahead at this panel.
+    pub fn far_ahead(&self, deadline: u32) -> bool {
+        deadline.saturating_sub(self.time) > FARTHEST_AHEAD
+    }
+}

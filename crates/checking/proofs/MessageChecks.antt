@@ -1,42 +1,42 @@
 -- The checks of a message that was read, one after the other. Assumes nothing.
 use Prim.Native.Nat.{ℕ, _+_, _≤_, _<_}
-use native.Mathlib.Omega.{arith}
-use mathlib.Core.Path.{_≡_, refl, sym, ap, _∙_}
-use mathlib.Core.Bool.{Bool, true, false, not, _&&_}
+use native.Mathlib.Decide.{ℕ-discrete}
+use mathlib.Core.Path.{_≡_, refl, sym, _∙_}
+use mathlib.Core.Logic.{by-cases}
+use mathlib.Core.Bool.{Bool, true, false, cond, _&&_}
 use mathlib.Core.List.{List, []}
 use lib.ListN.{length, getD}
-use lib.Dec.{leb}
+use lib.Dec.{leb, eqb}
 use borrow.Author.Tests.{lt-ltb, le-ltb, le-leb, lt-leb, eq-eqb, ne-eqb}
 use Rattle.frame.specs.Message.{Message}
 use Rattle.frame.specs.Refusal.{firstOf}
-use Rattle.frame.proofs.FirstOf.{Past, pass, stop}
+use Rattle.frame.proofs.FirstOf.{Past, pass, stop, eachNumber, Past-take, firstOf-take}
 use Rattle.rules.specs.Panel.{Panel, lapsed, met, ready}
 use Rattle.rules.specs.Refusals.{isWaiting, farthestAhead, tooFarAhead, messageChecks}
-use Rattle.slots.proofs.Held.{length-firstSlots}
 use Rattle.choosing.specs.Choice.{asking}
 use Rattle.parts.specs.Record.{parts, recordOf}
+use Rattle.checking.specs.Checks.{earlyChecks, fullNumber}
 
 -- ready asks for the marks and the time alone
 pub ready-asking : (p : Panel) (m : Message) → ready (asking (p .marks) (p .time)) m ≡ ready p m
 unfolding ready met lapsed
 ready-asking p m = refl
 
--- and the checks for neither high nor barrier
-pub checks-asking : (own time high count : ℕ) (marks barrier slots : List ℕ) (m : Message)
-    → messageChecks (recordOf (parts own time 0 count marks [] slots)) m ≡ messageChecks (recordOf (parts own time high count marks barrier slots)) m
-unfolding messageChecks tooFarAhead lapsed met ready
-checks-asking own time high count marks barrier slots m = refl
+-- and the checks before 23 for neither high nor barrier
+pub early-asking : (own time high count : ℕ) (marks barrier slots : List ℕ) (m : Message)
+    → firstOf (earlyChecks (recordOf (parts own time 0 count marks [] slots)) m)
+    ≡ firstOf (earlyChecks (recordOf (parts own time high count marks barrier slots)) m)
+unfolding messageChecks tooFarAhead lapsed
+early-asking own time high count marks barrier slots m = refl
 
-and-false : (a b : Bool) → b ≡ false → (a && b) ≡ false
-and-false true b e = e
-and-false false b e = refl
+-- ---- all but the last
 
 module _ (own time : ℕ) (marks slots : List ℕ) (count : ℕ) (m : Message) where
   abbrev panel : Panel
   panel = recordOf (parts own time 0 count marks [] slots)
 
   abbrev pub table : List (Bool × ℕ)
-  table = messageChecks panel m
+  table = earlyChecks panel m
 
   abbrev mark : ℕ
   mark = getD marks (m .source) 0
@@ -81,27 +81,38 @@ module _ (own time : ℕ) (marks slots : List ℕ) (count : ℕ) (m : Message) w
   unfolding messageChecks
   number-waiting past above e = stop table 3 past (rw (lt-leb (m .deadline) mark above) e)
 
-  pub past-had : Past table 3 → mark < m .deadline → isWaiting m (panel .waiting) ≡ false → Past table 4
-  unfolding messageChecks
-  past-had past above new = pass table 3 past (rw (lt-leb (m .deadline) mark above) new)
+  pub number-none : Past table 3 → mark < m .deadline → isWaiting m (panel .waiting) ≡ false → 0 ≡ firstOf table
+  unfolding messageChecks firstOf
+  number-none past above new = sym (pass table 3 past (rw (lt-leb (m .deadline) mark above) new))
 
-  -- ---- 23, or none
+-- ---- the last, 23
 
-  module _ (past : Past table 4) where
-    pub number-room : count < 32 → 0 ≡ firstOf table
-    unfolding messageChecks firstOf
-    number-room lt =
-        let room : length (panel .waiting) < 32 = omega (arith, length-firstSlots slots count) in
-        sym (pass table 4 past (rw (lt-leb 32 (length (panel .waiting)) room)))
+pub full-room : (waiting : ℕ) (isReady : Bool) → waiting < 32 → 0 ≡ fullNumber waiting isReady
+full-room waiting isReady lt = rw (lt-leb 32 waiting lt)
 
-    pub number-ready : ready (asking marks time) m ≡ true → 0 ≡ firstOf table
-    unfolding messageChecks firstOf
-    number-ready e =
-        let unready = ap not (sym (ready-asking panel m) ∙ e) in
-        sym (pass table 4 past (and-false (leb 32 (length (panel .waiting))) (not (ready panel m)) unready))
+and-false : (a : Bool) → (a && false) ≡ false
+and-false true = refl
+and-false false = refl
 
-    pub number-full : 32 ≤ count → ready (asking marks time) m ≡ false → 23 ≡ firstOf table
-    unfolding messageChecks
-    number-full le e =
-        let full : 32 ≤ length (panel .waiting) = omega (arith, length-firstSlots slots count) in
-        stop table 4 past (rw (le-leb 32 (length (panel .waiting)) full) (ap not (sym (ready-asking panel m) ∙ e)))
+pub full-ready : (waiting : ℕ) (isReady : Bool) → isReady ≡ true → 0 ≡ fullNumber waiting isReady
+full-ready waiting isReady e = rw (e, and-false (leb 32 waiting))
+
+pub full-unready : (waiting : ℕ) (isReady : Bool) → 32 ≤ waiting → isReady ≡ false → 23 ≡ fullNumber waiting isReady
+full-unready waiting isReady le e = rw (e, le-leb 32 waiting le)
+
+module _ (p : Panel) (m : Message) where
+  -- one before it applies
+  pub before-last : (firstOf (earlyChecks p m) ≡ 0 → ⊥) → firstOf (earlyChecks p m) ≡ firstOf (messageChecks p m)
+  before-last refuses = firstOf-take (messageChecks p m) 4 refuses
+
+  -- none before it does
+  pub at-last : firstOf (earlyChecks p m) ≡ 0 → firstOf (messageChecks p m) ≡ fullNumber (length (p .waiting)) (ready p m)
+  unfolding messageChecks firstOf eachNumber
+  at-last passed = Past-take (messageChecks p m) 4 refl passed
+
+  -- either way
+  pub last-number : (number : ℕ) → number ≡ firstOf (earlyChecks p m)
+      → cond (eqb number 0) (fullNumber (length (p .waiting)) (ready p m)) number ≡ firstOf (messageChecks p m)
+  last-number number e =
+      by-cases (ℕ-discrete number 0) (λ zero. rw (eq-eqb number 0 zero) (sym (at-last (sym e ∙ zero))))
+      (λ refuses. rw (ne-eqb number 0 refuses) (e ∙ before-last (λ none. refuses (e ∙ none))))

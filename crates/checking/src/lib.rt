@@ -10,10 +10,12 @@ ghost use mathlib.Core.Path.{_≡_};
 ghost use mathlib.Core.List.{[]};
 ghost use Rattle.frame.specs.Refusal.{firstOf};
 ghost use Rattle.frame.specs.Reading.{messageIn};
-ghost use Rattle.rules.specs.Refusals.{messageChecks, receiveChecks};
+ghost use Rattle.rules.specs.Panel.{ready as isReady};
+ghost use Rattle.rules.specs.Refusals.{receiveChecks};
 ghost use Rattle.slots.specs.Slots.{Reads, Slots, Kept};
+ghost use Rattle.choosing.specs.Choice.{asking};
 ghost use Rattle.parts.specs.Record.{parts, recordOf};
-ghost use Rattle.checking.specs.Checks.{frameChecksOn};
+ghost use Rattle.checking.specs.Checks.{frameChecksOn, earlyChecks, fullNumber};
 
 // The number of the first check that turns down a frame before its message is looked at, or 0: 26, 10, 1 to 8.
 fn frame_number(broken: bool, output: usize, frame: &[u8]) -> u8
@@ -31,8 +33,8 @@ fn frame_number(broken: bool, output: usize, frame: &[u8]) -> u8
 // Document 02, W-205: "A received deadline above time + 1,209,600 (14 days) is now refused."
 const FARTHEST_AHEAD: u32 = 1209600;
 
-// The number of the first check that turns down a message that was read, or 0: 20, 21, 32, 22, 23. That of 32
-// takes the time from the deadline, which is not below it past 21: a sum could pass 32 bits.
+// The number of the first check but the last that turns down a message that was read, or 0: 20, 21, 32, 22. That
+// of 32 takes the time from the deadline, which is not below it past 21: a sum could pass 32 bits.
 pub fn message_number<'a, 'b>(
     own: u8,
     time: u32,
@@ -42,7 +44,7 @@ pub fn message_number<'a, 'b>(
     frame: &'b [u8],
 ) -> u8
     requires { ⌜ Reads (now frame) × Slots (now slots) × Kept (now slots) count ⌝ }
-    ensures { λ r. ⌜ r ≡ firstOf (messageChecks (recordOf (parts own time 0 count (now (marks .entry)) [] (now (slots .entry))))
+    ensures { λ r. ⌜ r ≡ firstOf (earlyChecks (recordOf (parts own time 0 count (now (marks .entry)) [] (now (slots .entry))))
         (messageIn 4 (now (frame .entry)))) ⌝ }
 {
     let from = source(frame);
@@ -63,6 +65,14 @@ pub fn message_number<'a, 'b>(
     if is_waiting(frame, slots, count) {
         return 22; // it is waiting already
     }
+    0
+}
+
+// The number of the last check of a message, 23, or 0. With a place free nobody asks whether it is ready.
+fn place_number<'a, 'b>(time: u32, count: usize, marks: &'a [u32; 64], frame: &'b [u8]) -> u8
+    requires { ⌜ Reads (now frame) ⌝ }
+    ensures { λ r. ⌜ r ≡ fullNumber count (isReady (asking (now (marks .entry)) time) (messageIn 4 (now (frame .entry)))) ⌝ }
+{
     if count < 32 {
         return 0;
     }
@@ -95,5 +105,9 @@ pub fn receive_number<'a, 'b>(
     if number != 0 {
         return number;
     }
-    message_number(own, time, count, marks, slots, frame)
+    let number = message_number(own, time, count, marks, slots, frame);
+    if number != 0 {
+        return number;
+    }
+    place_number(time, count, marks, frame)
 }

@@ -11,7 +11,7 @@ use Rattle.frame.specs.Message.{Message}
 use Rattle.frame.specs.Reading.{messageIn}
 use Rattle.frame.proofs.FirstOf.{Past}
 use Rattle.frame.proofs.Passed.{zero-passed}
-use Rattle.checking.proofs.MessageChecks.{table, number-own, past-own, number-lapsed, past-lapsed, number-far, past-far, number-reached, number-waiting, past-had, number-room, number-ready, number-full}
+use Rattle.checking.proofs.MessageChecks.{table, number-own, past-own, number-lapsed, past-lapsed, number-far, past-far, number-reached, number-waiting, number-none}
 use Rattle.checking.proofs.message_number.Statement.{statement}
 use Rattle.checking.proofs.message_number.Tie as tie
 
@@ -51,11 +51,6 @@ past3 c = past-far _ _ _ _ _ _ (past2 (c .before)) (omega (arith, c .if3 .left, 
 
 above : (c : tie.Else4) → let d = c .before .before .before .before .before in getD (now (start d .args .marks)) (m d .source) 0 < m d .deadline
 above c = let d = c .before .before .before .before .before in omega (arith, c .if4 .left, due d, mark d)
-
-past4 : (c : tie.Else5) → Past (checksOf (c .before .before .before .before .before .before .before)) 4
-past4 c =
-    let above-at = c .before .before in
-    past-had _ _ _ _ _ _ (past3 (above-at .before)) (above above-at) (sym (c .before .is-waiting .ensures) ∙ c .if5 .left)
 
 source-requires : tie.Need-source-requires
 source-requires c κs = search needs
@@ -98,19 +93,9 @@ returns-5 c =
     number-waiting _ _ _ _ _ _ (past3 (above-at .before)) (above above-at) (sym (c .before .is-waiting .ensures) ∙ c .if5 .taken)
 
 returns-6 : tie.Need-returns-6
-returns-6 c = number-room _ _ _ _ _ _ (past4 (c .before)) (omega arith)
-
-ready-requires : tie.Need-ready-requires
-ready-requires c κs = search needs
-
-returns-7 : tie.Need-returns-7
-returns-7 c = let tested = c .before in number-ready _ _ _ _ _ _ (past4 (tested .before .before)) (sym (tested .ready .ensures .0) ∙ c .if7 .taken)
-
-returns-8 : tie.Need-returns-8
-returns-8 c =
-    let tested = c .before in
-    number-full _ _ _ _ _ _ (past4 (tested .before .before)) (omega (arith, tested .before .if6 .left))
-    (sym (tested .ready .ensures .0) ∙ c .if7 .left)
+returns-6 c =
+    let above-at = c .before .before in
+    number-none _ _ _ _ _ _ (past3 (above-at .before)) (above above-at) (sym (c .before .is-waiting .ensures) ∙ c .if5 .left)
 
 pub message-number-spec : {M : Type 1} → statement M
 message-number-spec =
@@ -127,7 +112,4 @@ message-number-spec =
     returns-4
     is-waiting-requires
     returns-5
-    returns-6
-    ready-requires
-    returns-7
-    returns-8)
+    returns-6)

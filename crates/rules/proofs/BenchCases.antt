@@ -41,7 +41,7 @@ casesOpened : Unit {0}
 unfolding callsOpened frame1 frame2 farFrame1 farFrame2 queue case1 case2 case3 case4 case5 case6 case7 case8 case9 case10 case11 caseBeacon caseOrder caseUnreached caseFarAhead caseFarAheadStays caseLastDays
 casesOpened = tt
 
--- Of every step of every case, the result that the case names is the one that document 01 defines.
+-- Of every step of every case, the result that the case names is the one that documents 01 and 02 define.
 pub bench-cases : EachHolds benchCases
 unfolding casesOpened
 bench-cases = refl and refl and refl and refl and refl and refl and refl and refl and refl and refl and refl and refl and refl and refl and refl and refl and refl and finished

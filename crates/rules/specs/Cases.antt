@@ -19,7 +19,7 @@ pub record Step : Type 0 where
 abbrev pub step : Panel → Call → Result → Step
 step panel call result = record { panel = panel; call = call; result = result }
 
--- the results that document 01 defines are those of the case
+-- the results that documents 01 and 02 define are those of the case
 abbrev pub Holds : List Step → Type 0
 Holds steps = map (λ (s : Step). s .result) steps ≡ map (λ (s : Step). defined (s .panel) (s .call)) steps
 

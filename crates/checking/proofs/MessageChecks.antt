@@ -1,12 +1,10 @@
 -- The checks of a message that was read, one after the other. Assumes nothing.
 use Prim.Native.Nat.{ℕ, _+_, _≤_, _<_}
-use native.Mathlib.Decide.{ℕ-discrete}
-use mathlib.Core.Path.{_≡_, refl, sym, _∙_}
-use mathlib.Core.Logic.{by-cases}
-use mathlib.Core.Bool.{Bool, true, false, cond, _&&_}
+use mathlib.Core.Path.{_≡_, refl, sym}
+use mathlib.Core.Bool.{Bool, true, false, _&&_}
 use mathlib.Core.List.{List, []}
 use lib.ListN.{length, getD}
-use lib.Dec.{leb, eqb}
+use lib.Dec.{leb}
 use borrow.Author.Tests.{lt-ltb, le-ltb, le-leb, lt-leb, eq-eqb, ne-eqb}
 use Rattle.frame.specs.Message.{Message}
 use Rattle.frame.specs.Refusal.{firstOf}
@@ -22,12 +20,11 @@ pub ready-asking : (p : Panel) (m : Message) → ready (asking (p .marks) (p .ti
 unfolding ready met lapsed
 ready-asking p m = refl
 
--- and the checks before 23 for neither high nor barrier
-pub early-asking : (own time high count : ℕ) (marks barrier slots : List ℕ) (m : Message)
-    → firstOf (earlyChecks (recordOf (parts own time 0 count marks [] slots)) m)
-    ≡ firstOf (earlyChecks (recordOf (parts own time high count marks barrier slots)) m)
-unfolding messageChecks tooFarAhead lapsed
-early-asking own time high count marks barrier slots m = refl
+-- and the checks for neither high nor barrier
+pub checks-asking : (own time high count : ℕ) (marks barrier slots : List ℕ) (m : Message)
+    → messageChecks (recordOf (parts own time 0 count marks [] slots)) m ≡ messageChecks (recordOf (parts own time high count marks barrier slots)) m
+unfolding messageChecks tooFarAhead lapsed met ready
+checks-asking own time high count marks barrier slots m = refl
 
 -- ---- all but the last
 
@@ -109,10 +106,3 @@ module _ (p : Panel) (m : Message) where
   pub at-last : firstOf (earlyChecks p m) ≡ 0 → firstOf (messageChecks p m) ≡ fullNumber (length (p .waiting)) (ready p m)
   unfolding messageChecks firstOf eachNumber
   at-last passed = Past-take (messageChecks p m) 4 refl passed
-
-  -- either way
-  pub last-number : (number : ℕ) → number ≡ firstOf (earlyChecks p m)
-      → cond (eqb number 0) (fullNumber (length (p .waiting)) (ready p m)) number ≡ firstOf (messageChecks p m)
-  last-number number e =
-      by-cases (ℕ-discrete number 0) (λ zero. rw (eq-eqb number 0 zero) (sym (at-last (sym e ∙ zero))))
-      (λ refuses. rw (ne-eqb number 0 refuses) (e ∙ before-last (λ none. refuses (e ∙ none))))

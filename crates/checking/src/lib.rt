@@ -11,7 +11,7 @@ ghost use mathlib.Core.List.{[]};
 ghost use Rattle.frame.specs.Refusal.{firstOf};
 ghost use Rattle.frame.specs.Reading.{messageIn};
 ghost use Rattle.rules.specs.Panel.{ready as isReady};
-ghost use Rattle.rules.specs.Refusals.{receiveChecks};
+ghost use Rattle.rules.specs.Refusals.{messageChecks, receiveChecks};
 ghost use Rattle.slots.specs.Slots.{Reads, Slots, Kept};
 ghost use Rattle.choosing.specs.Choice.{asking};
 ghost use Rattle.parts.specs.Record.{parts, recordOf};
@@ -35,7 +35,7 @@ const FARTHEST_AHEAD: u32 = 1209600;
 
 // The number of the first check but the last that turns down a message that was read, or 0: 20, 21, 32, 22. That
 // of 32 takes the time from the deadline, which is not below it past 21: a sum could pass 32 bits.
-pub fn message_number<'a, 'b>(
+fn early_number<'a, 'b>(
     own: u8,
     time: u32,
     count: usize,
@@ -83,6 +83,26 @@ fn place_number<'a, 'b>(time: u32, count: usize, marks: &'a [u32; 64], frame: &'
     23 // 32 are waiting and it is not ready
 }
 
+// The number of the first check that turns down a message that was read, or 0: 20, 21, 32, 22, 23.
+pub fn message_number<'a, 'b>(
+    own: u8,
+    time: u32,
+    count: usize,
+    marks: &'a [u32; 64],
+    slots: &'a [u8],
+    frame: &'b [u8],
+) -> u8
+    requires { ⌜ Reads (now frame) × Slots (now slots) × Kept (now slots) count ⌝ }
+    ensures { λ r. ⌜ r ≡ firstOf (messageChecks (recordOf (parts own time 0 count (now (marks .entry)) [] (now (slots .entry))))
+        (messageIn 4 (now (frame .entry)))) ⌝ }
+{
+    let number = early_number(own, time, count, marks, slots, frame);
+    if number != 0 {
+        return number;
+    }
+    place_number(time, count, marks, frame)
+}
+
 // The number of the first check that turns down a frame, or 0: 26, 10, 1 to 8, 20, 21, 32, 22, 23.
 pub fn receive_number<'a, 'b>(
     own: u8,
@@ -105,9 +125,5 @@ pub fn receive_number<'a, 'b>(
     if number != 0 {
         return number;
     }
-    let number = message_number(own, time, count, marks, slots, frame);
-    if number != 0 {
-        return number;
-    }
-    place_number(time, count, marks, frame)
+    message_number(own, time, count, marks, slots, frame)
 }

@@ -22,7 +22,7 @@ use Rattle.rules.specs.Handing.{hand}
 use Rattle.rules.specs.Settling.{Settled, withWaiting, settle}
 use Rattle.rules.specs.Calls.{handAndSettle, newMessage, emptied, sending, receiving, withTime, dropLapsed, clocking}
 use Rattle.rules.specs.Refusals.{broken, farthestAhead, tooFarAhead, sendChecks, messageChecks, receiveChecks, clockChecks}
-use Rattle.rules.specs.Results.{Call, send, receive, clock, effectOf, defined}
+use Rattle.rules.specs.Results.{Call, send, receive, clock, effectOf, refused, done, defined}
 use Rattle.rules.specs.Lists.{_isIn_, Made, recordAt, sends, Before, Lawful, AllPromised}
 use Rattle.rules.specs.FarAhead.{FarAhead}
 use Rattle.rules.proofs.Booleans.{not-true, cond-both}
@@ -32,7 +32,7 @@ use Rattle.rules.proofs.WaitingList.{alive-isIn}
 use Rattle.rules.proofs.Settling.{settle-settles}
 use Rattle.rules.proofs.Checks.{receive-passed}
 use Rattle.rules.proofs.Cause.{before-rises}
-use Rattle.rules.proofs.Results.{defined-number}
+use Rattle.rules.proofs.Results.{defined-both, defined-number}
 use Rattle.rules.proofs.Reached.{list-sound}
 
 -- ---- which are refused
@@ -132,6 +132,21 @@ effect-stays p (clock time output) =
       marks = S .marks;
     }
 
+-- a refused call gives back the record as it was
+module _ (p : Panel) (call : Call) where
+  waiting-stays : (w : Message) → w isIn p .waiting
+      → let after = defined p call .panel in
+      (w isIn after .waiting) ⊎ (w isIn effectOf p call .handed) ⊎ (lapsed after (w .deadline) ≡ true)
+  unfolding refused done
+  waiting-stays w i =
+      defined-both (λ r. (w isIn r .panel .waiting) ⊎ (w isIn effectOf p call .handed) ⊎ (lapsed (r .panel) (w .deadline) ≡ true)) p call
+      (λ _ _. inl i) (λ _. effect-stays p call .waiting w i)
+
+  marks-stay : (source : ℕ) → getD (p .marks) source 0 ≤ getD (defined p call .panel .marks) source 0
+  unfolding refused done
+  marks-stay source =
+      defined-both (λ r. getD (p .marks) source 0 ≤ getD (r .panel .marks) source 0) p call (λ _ _. omega arith) (λ _. effect-stays p call .marks source)
+
 -- ---- all of it, at any panel
 
 pub far-ahead : (p : Panel) → FarAhead p
@@ -142,8 +157,8 @@ far-ahead p =
       never-late = never-late p;
       send-never = send-never p;
       clock-never = clock-never p;
-      waiting-stays = λ call. effect-stays p call .waiting;
-      marks-stay = λ call. effect-stays p call .marks;
+      waiting-stays = waiting-stays p;
+      marks-stay = marks-stay p;
     }
 
 -- ---- after every list

@@ -26,9 +26,9 @@ pub record FarAhead (p : Panel) : Type 0 where
   -- "A send may still pass that distance": neither a send nor a clock call is ever refused with 32.
   pub send-never : (payload : List ℕ) (lifetime : ℕ) (output buffer : List ℕ) → defined p (send payload lifetime output buffer) .number ≢ 32
   pub clock-never : (time : ℕ) (output : List ℕ) → defined p (clock time output) .number ≢ 32
-  -- "Messages already waiting or logged stay": whatever its deadline, one that waits does so after any call, or was handed, or has lapsed; and no
-  -- mark falls.
+  -- "Messages already waiting or logged stay": whatever its deadline, one that waits does so in the record that any call gives back, refused or
+  -- not, or was handed by it, or has lapsed; and no mark falls.
   pub waiting-stays : (call : Call) (w : Message) → w isIn p .waiting
-      → let after = effectOf p call in
-      (w isIn after .panel .waiting) ⊎ (w isIn after .handed) ⊎ (lapsed (after .panel) (w .deadline) ≡ true)
-  pub marks-stay : (call : Call) (source : ℕ) → getD (p .marks) source 0 ≤ getD (effectOf p call .panel .marks) source 0
+      → let after = defined p call .panel in
+      (w isIn after .waiting) ⊎ (w isIn effectOf p call .handed) ⊎ (lapsed after (w .deadline) ≡ true)
+  pub marks-stay : (call : Call) (source : ℕ) → getD (p .marks) source 0 ≤ getD (defined p call .panel .marks) source 0

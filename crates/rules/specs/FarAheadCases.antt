@@ -7,6 +7,10 @@ use Rattle.rules.specs.Panel.{Panel, none64}
 use Rattle.rules.specs.Results.{send, receive, clock}
 use Rattle.rules.specs.Cases.{Step, step, of, panelOf, output, buffer, logged, frameFrom, zeros8, sent, taken, refusedWith}
 
+-- panel 0 with nothing in its log, at a time
+abbrev pub panel0At : ℕ → Panel
+panel0At time = panelOf 0 time 0 none64 none64 []
+
 -- ---- sent, refused, taken later. Panel 1, its clock set to a wrong year, sends at 2,000,000 with lifetime 100: 2,000,100. Panel 2 at 500 has
 -- that in its log, and sends with lifetime 50: high forces 2,000,101. Panel 0 refuses both with 32 until its time is near enough.
 
@@ -22,16 +26,15 @@ caseFarAhead =
     let line2 = logged (2 ∷ 0x00 ∷ 0x1e ∷ 0x84 ∷ 0xe5 ∷ 0 ∷ []) in
     let only1 = of ((1, 2000100) ∷ []) in
     let both = of ((1, 2000100) ∷ (2, 2000101) ∷ []) in
-    let without : ℕ → Panel = λ time. panelOf 0 time 0 none64 none64 [] in
     let with1 : ℕ → Panel = λ time. panelOf 0 time 2000100 only1 only1 [] in
     step (panelOf 1 2000000 0 none64 none64 []) (send [] 100 output buffer) (sent (panelOf 1 2000000 2000100 only1 only1 []) (line1 ∷ []) farFrame1)
     ∷ step (panelOf 2 500 2000100 only1 only1 []) (send [] 50 output buffer)
     (sent (panelOf 2 500 2000101 both (of ((2, 2000101) ∷ [])) []) (line2 ∷ []) farFrame2)
-    ∷ step (without 500) (receive farFrame1 output) (refusedWith 32 (without 500) output [])
-    ∷ step (without 500) (receive farFrame2 output) (refusedWith 32 (without 500) output [])
-    ∷ step (without 500) (clock 790500 output) (taken (without 790500) [])
-    ∷ step (without 790500) (receive farFrame2 output) (refusedWith 32 (without 790500) output [])  -- one above the sum
-    ∷ step (without 790500) (receive farFrame1 output) (taken (with1 790500) (line1 ∷ []))  -- equal to the sum
+    ∷ step (panel0At 500) (receive farFrame1 output) (refusedWith 32 (panel0At 500) output [])
+    ∷ step (panel0At 500) (receive farFrame2 output) (refusedWith 32 (panel0At 500) output [])
+    ∷ step (panel0At 500) (clock 790500 output) (taken (panel0At 790500) [])
+    ∷ step (panel0At 790500) (receive farFrame2 output) (refusedWith 32 (panel0At 790500) output [])  -- one above the sum
+    ∷ step (panel0At 790500) (receive farFrame1 output) (taken (with1 790500) (line1 ∷ []))  -- equal to the sum
     ∷ step (with1 790500) (clock 790501 output) (taken (with1 790501) [])
     ∷ step (with1 790501) (receive farFrame2 output) (taken (panelOf 0 790501 2000101 both both []) (line2 ∷ []))
     ∷ []
@@ -65,10 +68,9 @@ caseLastDays =
     let last = frameFrom (0x01 ∷ 0xff ∷ 0xff ∷ 0xff ∷ 0xff ∷ zeros8) (0x00 ∷ []) in
     let line = logged (1 ∷ 0xff ∷ 0xff ∷ 0xff ∷ 0xff ∷ 0 ∷ []) in
     let only1 = of ((1, 4294967295) ∷ []) in
-    let without : ℕ → Panel = λ time. panelOf 0 time 0 none64 none64 [] in
     let with1 : ℕ → Panel = λ time. panelOf 0 time 4294967295 only1 only1 [] in
-    step (without 4293757694) (receive last output) (refusedWith 32 (without 4293757694) output [])
-    ∷ step (without 4293757695) (receive last output) (taken (with1 4293757695) (line ∷ []))
-    ∷ step (without 4293757696) (receive last output) (taken (with1 4293757696) (line ∷ []))  -- in 32 bits the sum would be 0
-    ∷ step (without 4294967295) (receive last output) (taken (with1 4294967295) (line ∷ []))
+    step (panel0At 4293757694) (receive last output) (refusedWith 32 (panel0At 4293757694) output [])
+    ∷ step (panel0At 4293757695) (receive last output) (taken (with1 4293757695) (line ∷ []))
+    ∷ step (panel0At 4293757696) (receive last output) (taken (with1 4293757696) (line ∷ []))  -- in 32 bits the sum would be 0
+    ∷ step (panel0At 4294967295) (receive last output) (taken (with1 4294967295) (line ∷ []))
     ∷ []

@@ -7,10 +7,8 @@ use frame::frame_check;
 use parts::broken;
 ghost use mathlib.Core.Path.{_≡_};
 ghost use mathlib.Core.Bool.{cond};
-ghost use lib.Dec.{eqb};
 ghost use Rattle.rules.specs.Visiting.{trace};
 ghost use Rattle.parts.specs.Record.{parts, recordOf};
-ghost use Rattle.checking.specs.Checks.{fullNumber};
 ghost use Rattle.tracing.specs.Shown.{shownIn};
 
 // What is shown of a frame: the number that a receive of it with an output long enough would be refused
@@ -31,22 +29,6 @@ fn unread_number(broken: bool, number: u8) -> u8
         return 26; // the record is broken
     }
     number
-}
-
-// The number of a message: that of the first check but the last that turned it down, or 23, or 0.
-fn read_number(number: u8, count: usize, ready: bool) -> u8
-    ensures { λ r. ⌜ r ≡ cond (eqb number 0) (fullNumber count ready) number ⌝ }
-{
-    if number != 0 {
-        return number;
-    }
-    if ready {
-        return 0;
-    }
-    if count < 32 {
-        return 0;
-    }
-    23 // 32 are waiting and it is not ready
 }
 
 // A frame is looked at, and nothing is changed.
@@ -82,10 +64,9 @@ pub extern "C" fn panel_trace_parts<'a, 'b>(
             number: 26,
         };
     }
-    let number = message_number(own, time, count, marks, slots, frame);
     Trace {
         visited: tested.visited,
         ready: tested.ready,
-        number: read_number(number, count, tested.ready),
+        number: message_number(own, time, count, marks, slots, frame),
     }
 }

@@ -1,22 +1,17 @@
 -- `tracing::panel_trace_parts` meets its contract: the number is that of the first check that applies, the rest is the answer of the test for
 -- ready. Assumes nothing.
-use mathlib.Core.Path.{_≡_, sym, ap, ap₂, _∙_}
-use mathlib.Core.Bool.{false, cond}
-use Prim.Native.Nat.{ℕ}
-use lib.Dec.{eqb}
+use mathlib.Core.Path.{_≡_, sym, ap, _∙_}
+use mathlib.Core.Bool.{false}
 use borrow.Author.Needs.{needs}
 use denote.Ref.{now}
-use Rattle.frame.specs.Reading.{messageIn}
-use Rattle.rules.specs.Sizes.{width}
+use Rattle.frame.specs.Refusal.{firstOf}
 use Rattle.rules.specs.Panel.{Panel as Record}
 use Rattle.rules.specs.Refusals.{broken}
 use Rattle.rules.proofs.Checks.{broken-false}
 use Rattle.slots.specs.Slots.{Reads}
-use Rattle.slots.proofs.Held.{length-firstSlots}
 use Rattle.parts.specs.Record.{Parts, parts, recordOf}
 use Rattle.parts.proofs.Answering.{valid-kept}
-use Rattle.checking.specs.Checks.{fullNumber}
-use Rattle.checking.proofs.MessageChecks.{ready-asking, early-asking, last-number}
+use Rattle.checking.proofs.MessageChecks.{checks-asking}
 use Rattle.tracing.proofs.Showing.{number-broken, number-unread, number-read, shown-unread, shown-read}
 use Rattle.tracing.proofs.panel_trace_parts.Statement.{statement}
 use Rattle.tracing.proofs.panel_trace_parts.Tie as tie
@@ -79,22 +74,13 @@ message-number-requires c κs =
     let at = tested .before .before in
     (reads (tested .before), search needs, valid-kept (lent at) (broken-false (given at) (whole (c .before))))
 
-read-number-requires : tie.Need-read-number-requires
-read-number-requires c κs = search needs
-
 returns-3 : tie.Need-returns-3
 returns-3 c =
-    let read-at = c .before in
-    let tested = read-at .before .before .before in
+    let tested = c .before .before .before in
     let at = tested .before .before in
-    let a = start at .args in
-    let bytes = now (a .frame) in
+    let bytes = now (start at .args .frame) in
     let read = reads (tested .before) in
-    let early = read-at .message-number .ensures ∙ early-asking _ _ _ _ _ _ _ _ in
-    let full = ap₂ fullNumber (sym (length-firstSlots (now (a .slots)) (a .count))) (tested .ready .ensures .0 ∙ ready-asking (given at) (messageIn width bytes)) in
-    let number =
-    c .read-number .ensures ∙ ap (λ (n : ℕ). cond (eqb (read-at .message-number .result) 0) n (read-at .message-number .result)) full
-    ∙ last-number (given at) (messageIn width bytes) _ early ∙ number-read (given at) bytes (whole (read-at .before .before)) read in
+    let number = c .message-number .ensures ∙ ap firstOf (checks-asking _ _ _ _ _ _ _ _) ∙ number-read (given at) bytes (whole (c .before .before)) read in
     shown-read (given at) bytes _ number read _ _ (tested .ready .ensures .0) (tested .ready .ensures .1)
 
 pub panel-trace-parts-spec : {M : Type 1} → statement M
@@ -108,5 +94,4 @@ panel-trace-parts-spec =
     ready-requires
     returns-2
     message-number-requires
-    read-number-requires
     returns-3)

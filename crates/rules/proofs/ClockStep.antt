@@ -5,7 +5,7 @@ use mathlib.Core.Path.{_≡_, refl, ap, _∙_, subst⁻¹}
 use mathlib.Core.Logic.{_⊎_, inl, inr, ⊎-elim}
 use mathlib.Core.List.{List, [], _∷_, Memᴰ·append-left}
 use Rattle.frame.specs.Refusal.{firstOf}
-use Rattle.rules.specs.Panel.{Name, Panel}
+use Rattle.rules.specs.Panel.{Name, Make, Panel}
 use Rattle.rules.specs.Settling.{settle}
 use Rattle.rules.specs.Calls.{withTime, alive, dropLapsed, clocking}
 use Rattle.rules.specs.Refusals.{clockChecks}
@@ -21,12 +21,12 @@ use Rattle.rules.proofs.Keeping.{Keeps, sound-withWaiting, settle-keeps
 use Rattle.rules.proofs.Sites.{Site, siteAt, siteAfter, Placed, SiteSound}
 use Rattle.rules.proofs.Steps.{ListSound, made, quiet-step, unless-step, siteDone, siteAfter-done, placed-after}
 
-module _ (earlier : List Made) (L : ListSound earlier) (i : ℕ) (time : ℕ) (output : List ℕ) where
+module _ {makes : ℕ → Make} (earlier : List Made) (L : ListSound makes earlier) (i : ℕ) (time : ℕ) (output : List ℕ) where
   abbrev site : Site
-  site = siteAt i earlier
+  site = siteAt makes i earlier
 
   abbrev p : Panel
-  p = recordAt i earlier
+  p = recordAt makes i earlier
 
   abbrev log : List Name
   log = logAt i earlier
@@ -89,11 +89,11 @@ module _ (earlier : List Made) (L : ListSound earlier) (i : ℕ) (time : ℕ) (o
     unfolding framesSent framesTaken timeAfter done
     site-done = siteAfter-done site (clock time output) (clocking p time) output [] [] (clocking-readable p time (P .valid .waiting))
 
-    done-sound : ListSound (made i (clock time output) (done (clocking p time) output [] []) ∷ earlier)
+    done-sound : ListSound makes (made i (clock time output) (done (clocking p time) output [] []) ∷ earlier)
     unfolding framesSent
     done-sound = quiet-step earlier L i (clock time output) _ refl (subst⁻¹ (SiteSound (sends earlier) i) site-done clocking-sound)
 
-  pub clock-step : ListSound (made i (clock time output) (defined p (clock time output)) ∷ earlier)
+  pub clock-step : ListSound makes (made i (clock time output) (defined p (clock time output)) ∷ earlier)
   unfolding defined
   clock-step =
       unless-step earlier L i (clock time output) (firstOf (clockChecks p time output)) output [] (done (clocking p time) output [] [])

@@ -2,16 +2,16 @@
 use Prim.Native.Nat.{ℕ, _≤_, _<_, max}
 use native.Mathlib.Decide.{ℕ-discrete, decLt}
 use native.Mathlib.Omega.{arith}
-use mathlib.Core.Path.{_≡_, refl, _∙_, subst}
+use mathlib.Core.Path.{_≡_, refl, ap, _∙_, subst}
 use mathlib.Core.Logic.{_⊎_, inl, inr, ⊎-elim, _≢_, by-cases}
 use mathlib.Core.Bool.{true}
 use mathlib.Core.List.{List, [], _∷_, _++_, List·Memᴰ·head as first, Memᴰ·append-left, Memᴰ·append-right, Memᴰ·cast}
 use lib.ListN.{length, getD}
 use Rattle.frame.specs.Message.{Message}
-use Rattle.rules.specs.Panel.{Name, nameOf, Panel, none64, ready}
-use Rattle.rules.specs.Handing.{raise, hand}
-use Rattle.rules.specs.Lists.{_isIn_, Sent, Before}
-use Rattle.rules.proofs.Raise.{length-raise, raise-same, raise-other, raise-le, getD-none64}
+use Rattle.rules.specs.Panel.{Name, nameOf, Make, Panel, none64, ready}
+use Rattle.rules.specs.Handing.{raise, barrierFor, hand}
+use Rattle.rules.specs.Lists.{_isIn_, Sent, Before, direct}
+use Rattle.rules.proofs.Raise.{length-raise, raise-same, raise-other, raise-le, StaysOrGoes, getD-barrierFor, length-barrierFor, getD-none64}
 use Rattle.rules.proofs.WaitingList.{isIn-end}
 use Rattle.rules.proofs.Ready.{limit, dead, dead-limit, dead-hand, limit-hand, ready-true}
 use Rattle.rules.proofs.Cause.{carried, named, name-path, Known, Upto, Covered, SendsSound, upto-before, upto-upto, upto-rises, source-order, known-deadline, known-source, before-covered}
@@ -38,6 +38,32 @@ pub thinned-all : {ss : List Sent} {log : List Name} {marks barrier : List ℕ} 
     → ((x : Name) → x isIn log → Before ss x (nameOf m)) → Thinned ss m barrier none64
 thinned-all {barrier = barrier} m K all k =
     by-cases (decLt 0 (getD barrier k 0)) (λ h. inr (getD-none64 k, all _ (K .barrier-logged k h))) (λ h. inl (omega (arith, getD-none64 k)))
+
+-- a message that an entry of m has reached is before m
+entry-before : {ss : List Sent} → SendsSound ss → (m : Message) → WasSent ss m → {x : Name} → Known ss x → x .deadline ≤ getD (m .entries) (x .source) 0
+    → Before ss x (nameOf m)
+entry-before S m (s, i, e) {x} known le =
+    let h = S .entry s i (x .source) (rw e (omega (arith, known-deadline S known))) in
+    upto-before (source-order S known (S .known s i _ h) refl (rw e le)) (direct s i (ap nameOf e) h)
+
+-- so each make of panel only thins its barrier
+pub thinned-for : {ss : List Sent} → SendsSound ss → {log : List Name} {dead : ℕ} → LogSound ss log dead → {marks barrier : List ℕ} {high : ℕ}
+    → SummarySound ss log marks barrier high → (m : Message) → WasSent ss m → (make : Make) (p : Panel) → Thinned ss m barrier (p .barrier)
+    → Thinned ss m barrier (barrierFor make p m)
+thinned-for {ss} S L {barrier = barrier} K m sent make p thin k = go (getD-barrierFor make p m k) (thin k)
+  where
+    b : List ℕ
+    b = barrierFor make p m
+
+    go : StaysOrGoes b p m k
+        → (getD (p .barrier) k 0 ≡ getD barrier k 0) ⊎ ((getD (p .barrier) k 0 ≡ 0) × Before ss (named k (getD barrier k 0)) (nameOf m))
+        → (getD b k 0 ≡ getD barrier k 0) ⊎ ((getD b k 0 ≡ 0) × Before ss (named k (getD barrier k 0)) (nameOf m))
+    go (inl e) (inl f) = inl (e ∙ f)
+    go (inl e) (inr (f, before)) = inr (e ∙ f, before)
+    go (inr (e, le)) (inl f) =
+        by-cases (decLt 0 (getD barrier k 0)) (λ h. inr (e, entry-before S m sent (L .known _ (K .barrier-logged k h)) (omega arith)))
+        (λ h. inl (omega arith))
+    go (inr (e, le)) (inr (f, before)) = inr (e, before)
 
 module _ {ss : List Sent} (S : SendsSound ss) {log : List Name} {dead : ℕ} (L : LogSound ss log dead) (m : Message) (N : Next ss log dead m)
     {marks barrier : List ℕ} {high : ℕ} (K : SummarySound ss log marks barrier high) where
@@ -137,6 +163,7 @@ module _ {ss : List Sent} (S : SendsSound ss) {log : List Name} {p : Panel} (G :
       let next : Next ss log (dead p) m = record { known = known-sent s; alive = omega (arith, dead-limit p); new = new } in
       record {
         log-sound = log-end (G .log-sound) next _ (dead-hand p m) (ready-whole m s r);
-        summary = summary-end S (G .log-sound) m next (G .summary) (p .barrier) (G .summary .barrier-64) (λ k. inl refl);
+        summary = summary-end S (G .log-sound) m next (G .summary) _ (length-barrierFor (p .make) p m ∙ G .summary .barrier-64)
+            (thinned-for S (G .log-sound) (G .summary) m s (p .make) p (λ k. inl refl));
         waits = rw (limit-hand p m) (waits-end m (G .waits) other);
       }

@@ -1,15 +1,19 @@
--- Laws of `raise`, by which marks and barrier entries grow, and of 64 zeros. Assumes nothing.
+-- Laws of `raise`, by which marks and barrier entries grow, of a shortened barrier, and of 64 zeros. Assumes nothing.
 use Prim.Native.Nat.{ℕ, zero, suc, _≤_, _<_, max}
 use native.Mathlib.Decide.{ℕ-discrete, decLt}
 use native.Mathlib.Omega.{arith}
-use mathlib.Core.Path.{_≡_, refl}
-use mathlib.Core.Logic.{_≢_, by-cases}
-use mathlib.Core.List.{List}
+use mathlib.Core.Path.{_≡_, refl, sym, ap}
+use mathlib.Core.Logic.{_⊎_, inl, inr, _≢_, by-cases}
+use mathlib.Core.Bool.{cond}
+use mathlib.Core.List.{List, [], _∷_}
 use lib.ListN.{length, getD, replicate, length-set, length-replicate, List·getD-eq-default}
 use lib.Seq.{getD-set-same, getD-set-other}
+use lib.Dec.{leb}
+use borrow.Author.Tests.{leb-true}
 use Rattle.frame.specs.Message.{Message}
-use Rattle.rules.specs.Panel.{none64}
-use Rattle.rules.specs.Handing.{raise}
+use Rattle.rules.specs.Panel.{Make, oldMake, newMake, Panel, none64}
+use Rattle.rules.specs.Handing.{raise, shortened, barrierFor}
+use Rattle.rules.proofs.Booleans.{cond-both}
 
 pub length-raise : (ns : List ℕ) (m : Message) → length (raise ns m) ≡ length ns
 unfolding raise
@@ -32,6 +36,46 @@ raise-le ns m panel =
     same =
         by-cases (decLt (m .source) (length ns)) (λ lt. omega (arith, raise-same ns m lt))
         (λ past. omega (arith, List·getD-eq-default ns 0 {n = m .source} (omega (arith, past))))
+
+-- ---- the barrier that a message's own deadline goes into
+
+-- where the message has no entry, the barrier's stays
+without-entry : (b : ℕ) → cond (leb b 0) 0 b ≡ b
+without-entry b = cond-both (λ n. n ≡ b) (leb b 0) (λ e. omega (arith, leb-true b 0 e)) (λ _. refl)
+
+pub getD-shortened : (barrier entries : List ℕ) (k : ℕ)
+    → getD (shortened barrier entries) k 0 ≡ cond (leb (getD barrier k 0) (getD entries k 0)) 0 (getD barrier k 0)
+unfolding shortened
+getD-shortened [] entries k = cond-both (λ n. 0 ≡ n) (leb 0 (getD entries k 0)) (λ _. refl) (λ _. refl)
+getD-shortened (b ∷ barrier) [] k = sym (without-entry (getD (b ∷ barrier) k 0))
+getD-shortened (b ∷ barrier) (entry ∷ entries) zero = refl
+getD-shortened (b ∷ barrier) (entry ∷ entries) (suc k) = getD-shortened barrier entries k
+
+pub length-shortened : (barrier entries : List ℕ) → length (shortened barrier entries) ≡ length barrier
+unfolding shortened
+length-shortened [] entries = refl
+length-shortened (b ∷ barrier) [] = refl
+length-shortened (b ∷ barrier) (entry ∷ entries) = ap suc (length-shortened barrier entries)
+
+-- each entry stays, or is removed and is at most the message's
+abbrev pub StaysOrGoes : List ℕ → Panel → Message → ℕ → Type 0
+StaysOrGoes b p m k = (getD b k 0 ≡ getD (p .barrier) k 0) ⊎ ((getD b k 0 ≡ 0) × (getD (p .barrier) k 0 ≤ getD (m .entries) k 0))
+
+pub getD-barrierFor : (make : Make) (p : Panel) (m : Message) (k : ℕ) → StaysOrGoes (barrierFor make p m) p m k
+unfolding barrierFor
+getD-barrierFor oldMake p m k = inl refl
+getD-barrierFor newMake p m k =
+    let b = getD (p .barrier) k 0 in
+    let entry = getD (m .entries) k 0 in
+    rw (getD-shortened (p .barrier) (m .entries) k)
+    (cond-both (λ n. (n ≡ b) ⊎ ((n ≡ 0) × (b ≤ entry))) (leb b entry) (λ e. inr (refl, leb-true b entry e)) (λ _. inl refl))
+
+pub length-barrierFor : (make : Make) (p : Panel) (m : Message) → length (barrierFor make p m) ≡ length (p .barrier)
+unfolding barrierFor
+length-barrierFor oldMake p m = refl
+length-barrierFor newMake p m = length-shortened (p .barrier) (m .entries)
+
+-- ---- 64 zeros
 
 zeros : (n panel : ℕ) → getD {A = ℕ} (replicate n 0) panel 0 ≡ 0
 zeros zero panel = refl

@@ -11,7 +11,7 @@ use Rattle.frame.specs.Refusal.{firstOf}
 use Rattle.frame.specs.Reading.{messageIn}
 use Rattle.frame.proofs.Readable.{Readable}
 use Rattle.rules.specs.Sizes.{width}
-use Rattle.rules.specs.Panel.{Name, nameOf, Panel, ready}
+use Rattle.rules.specs.Panel.{Name, nameOf, Make, Panel, ready}
 use Rattle.rules.specs.Handing.{hand}
 use Rattle.rules.specs.Settling.{Settled, withWaiting, settle}
 use Rattle.rules.specs.Calls.{handAndSettle, receiving}
@@ -29,12 +29,12 @@ use Rattle.rules.proofs.Keeping.{logWith, Keeps, sound-withWaiting, kee
 use Rattle.rules.proofs.Sites.{Site, siteAt, siteAfter, Placed, SiteSound}
 use Rattle.rules.proofs.Steps.{ListSound, made, quiet-step, unless-step, siteDone, siteAfter-done, placed-after}
 
-module _ (earlier : List Made) (L : ListSound earlier) (i : ℕ) (bytes output : List ℕ) where
+module _ {makes : ℕ → Make} (earlier : List Made) (L : ListSound makes earlier) (i : ℕ) (bytes output : List ℕ) where
   abbrev site : Site
-  site = siteAt i earlier
+  site = siteAt makes i earlier
 
   abbrev p : Panel
-  p = recordAt i earlier
+  p = recordAt makes i earlier
 
   abbrev m : Message
   m = messageIn width bytes
@@ -138,7 +138,7 @@ module _ (earlier : List Made) (L : ListSound earlier) (i : ℕ) (bytes output :
     unfolding framesSent framesTaken timeAfter done
     site-done = siteAfter-done site (receive bytes output) (receiving p m) output [] [] (receiving-readable p m (P .valid .waiting) readable)
 
-    done-sound : ListSound (made i (receive bytes output) (done (receiving p m) output [] []) ∷ earlier)
+    done-sound : ListSound makes (made i (receive bytes output) (done (receiving p m) output [] []) ∷ earlier)
     unfolding framesSent
     done-sound = quiet-step earlier L i (receive bytes output) _ refl (subst⁻¹ (SiteSound (sends earlier) i) site-done receiving-sound)
 
@@ -150,7 +150,7 @@ module _ (earlier : List Made) (L : ListSound earlier) (i : ℕ) (bytes output :
   given-sent number e (inr refuses) = absurd ((rw e at refuses) refl)
 
   pub receive-step : Given (sends earlier) (receive bytes output) (defined p (receive bytes output))
-      → ListSound (made i (receive bytes output) (defined p (receive bytes output)) ∷ earlier)
+      → ListSound makes (made i (receive bytes output) (defined p (receive bytes output)) ∷ earlier)
   unfolding defined
   receive-step given =
       unless-step earlier L i (receive bytes output) (firstOf (receiveChecks p bytes output)) output [] (done (receiving p m) output [] [])

@@ -15,7 +15,7 @@ use Rattle.frame.specs.Reading.{messageIn}
 use Rattle.frame.proofs.Readable.{Readable}
 use Rattle.frame.proofs.Places.{frame-message}
 use Rattle.rules.specs.Sizes.{width}
-use Rattle.rules.specs.Panel.{Name, nameOf, Panel}
+use Rattle.rules.specs.Panel.{Name, nameOf, Make, Panel}
 use Rattle.rules.specs.Handing.{hand}
 use Rattle.rules.specs.Calls.{handAndSettle, sendDeadline, newMessage, emptied, sending}
 use Rattle.rules.specs.Refusals.{sendChecks}
@@ -32,12 +32,12 @@ use Rattle.rules.proofs.Keeping.{logWith, Keeps, keeps-hand, settle-kee
 use Rattle.rules.proofs.Sites.{Site, siteAt, siteAfter, Placed, SiteSound}
 use Rattle.rules.proofs.Steps.{ListSound, list-with, made, unless-step, siteDone, siteAfter-done, placed-after}
 
-module _ (earlier : List Made) (L : ListSound earlier) (i : ℕ) (payload : List ℕ) (lifetime : ℕ) (output buffer : List ℕ) where
+module _ {makes : ℕ → Make} (earlier : List Made) (L : ListSound makes earlier) (i : ℕ) (payload : List ℕ) (lifetime : ℕ) (output buffer : List ℕ) where
   abbrev site : Site
-  site = siteAt i earlier
+  site = siteAt makes i earlier
 
   abbrev p : Panel
-  p = recordAt i earlier
+  p = recordAt makes i earlier
 
   abbrev m : Message
   m = newMessage p payload lifetime
@@ -130,7 +130,7 @@ module _ (earlier : List Made) (L : ListSound earlier) (i : ℕ) (payload : List
         mine s (later k) q = Memᴰ·append-left _ (L .sites i .mine s k q)
 
     -- at the other panels nothing changes
-    others : (j : ℕ) → j ≢ i → SiteSound (new ∷ sends earlier) j (siteAt j earlier)
+    others : (j : ℕ) → j ≢ i → SiteSound (new ∷ sends earlier) j (siteAt makes j earlier)
     others j other =
         let G = L .sites j in
         record {
@@ -158,11 +158,11 @@ module _ (earlier : List Made) (L : ListSound earlier) (i : ℕ) (payload : List
     site-done = siteAfter-done site (send payload lifetime output buffer) (sending p payload lifetime) output (frame width m) buffer
         (sending-readable p payload lifetime (P .valid .waiting) readable)
 
-    done-sound : ListSound (made i (send payload lifetime output buffer) result ∷ earlier)
+    done-sound : ListSound makes (made i (send payload lifetime output buffer) result ∷ earlier)
     done-sound =
         list-with _ earlier (new ∷ sends earlier) sends-done sends-sound (subst⁻¹ (SiteSound (new ∷ sends earlier) i) site-done site-sound) others
 
-  pub send-step : Bytes payload → ListSound (made i (send payload lifetime output buffer) (defined p (send payload lifetime output buffer)) ∷ earlier)
+  pub send-step : Bytes payload → ListSound makes (made i (send payload lifetime output buffer) (defined p (send payload lifetime output buffer)) ∷ earlier)
   unfolding defined
   send-step bytes =
       unless-step earlier L i (send payload lifetime output buffer) (firstOf (sendChecks p payload lifetime output buffer)) output buffer result

@@ -12,11 +12,11 @@ use Rattle.rules.specs.Panel.{Name, Panel, none64}
 use Rattle.rules.specs.Handing.{hand}
 use Rattle.rules.specs.Calls.{emptied}
 use Rattle.rules.specs.Lists.{_isIn_, Sent, Before, direct}
-use Rattle.rules.proofs.Raise.{length-none64}
+use Rattle.rules.proofs.Raise.{length-barrierFor, length-none64}
 use Rattle.rules.proofs.Ready.{limit, dead, dead-limit, dead-hand, limit-hand, limit-emptied, dead-emptied}
 use Rattle.rules.proofs.Cause.{carried, name, named, Known, Covered, SendsSound, LastStep, last, before-more, before-old}
 use Rattle.rules.proofs.Sound.{LoggedOrDead, LogSound, SummarySound, WaitingSound, PanelSound, known-sent, ahead-isIn, Next, log-end}
-use Rattle.rules.proofs.Handing.{summary-end, thinned-all, waits-end}
+use Rattle.rules.proofs.Handing.{summary-end, thinned-all, thinned-for, waits-end}
 
 -- m is sent with this log before it, at a panel that has all messages of its own in its log
 pub record New (ss : List Sent) (m : Message) (log : List Name) : Type 0 where
@@ -128,8 +128,9 @@ module _ {ss : List Sent} (S : SendsSound ss) (new : Sent) (N : New ss (carried 
       record {
         log-sound = log-end (H .log-sound) next _ (rw (dead-emptied p) at (dead-hand (emptied p) m))
             (λ y b. ⊎-elim (λ i. inl i) (λ d. inr (omega (arith, d, dead-hand (emptied p) m, dead-emptied p))) (new-whole (G .log-sound) y b));
-        summary = summary-end sends-more (H .log-sound) m next (H .summary) none64 length-none64
-            (thinned-all m (H .summary) (λ x i. direct new (first refl) refl i));
+        summary = summary-end sends-more (H .log-sound) m next (H .summary) _ (length-barrierFor (p .make) (emptied p) m ∙ length-none64)
+            (thinned-for sends-more (H .log-sound) (H .summary) m (new, first refl, refl) (p .make) (emptied p)
+            (thinned-all m (H .summary) (λ x i. direct new (first refl) refl i)));
         waits = rw (limit-hand (emptied p) m, limit-emptied p)
             (waits-end m (H .waits) (λ w i e. unknown (let (s, j, q) = known-sent (G .waits .sent w i) in (s, j, q ∙ e))));
       }

@@ -8,7 +8,7 @@ use lib.ListN.{length}
 use lib.Dec.{eqb·suc-zero}
 use borrow.Author.Tests.{eq-eqb, ne-eqb}
 use Rattle.frame.specs.Message.{Message}
-use Rattle.rules.specs.Panel.{Name, nameOf, Panel}
+use Rattle.rules.specs.Panel.{Name, nameOf, Make, Panel}
 use Rattle.rules.specs.Results.{Call, send, receive, clock, Result, refused}
 use Rattle.rules.specs.Lists.{_isIn_, Made, on, recordAt, framesSent, framesTaken, nameIn, sentAt, takenAt, namesIn, logAt, timeAfter, timeAt, Sent}
 use Rattle.rules.proofs.Settling.{NoneReady}
@@ -23,9 +23,9 @@ pub record Site : Type 0 where
   pub taken : List Name
   pub time : ℕ
 
-abbrev pub siteAt : ℕ → List Made → Site
-siteAt i list =
-    record { panel = recordAt i list; log = logAt i list; sent = sentAt i list; taken = takenAt i list; time = timeAt i list }
+abbrev pub siteAt : (ℕ → Make) → ℕ → List Made → Site
+siteAt makes i list =
+    record { panel = recordAt makes i list; log = logAt i list; sent = sentAt i list; taken = takenAt i list; time = timeAt i list }
 
 -- ---- a call changes the site of its panel, and no other
 
@@ -50,23 +50,23 @@ siteIf here s call result =
       time = cond here (timeAfter (s .time) call result) (s .time);
     }
 
-siteAt-siteIf : (i : ℕ) (made : Made) (earlier : List Made)
-    → siteAt i (made ∷ earlier) ≡ siteIf (on i made) (siteAt i earlier) (made .call) (made .result)
+siteAt-siteIf : (makes : ℕ → Make) (i : ℕ) (made : Made) (earlier : List Made)
+    → siteAt makes i (made ∷ earlier) ≡ siteIf (on i made) (siteAt makes i earlier) (made .call) (made .result)
 unfolding siteIf recordAt logAt sentAt takenAt timeAt
-siteAt-siteIf i made earlier = refl
+siteAt-siteIf makes i made earlier = refl
 
-pub siteAt-here : (made : Made) (earlier : List Made)
-    → siteAt (made .at) (made ∷ earlier) ≡ siteAfter (siteAt (made .at) earlier) (made .call) (made .result)
+pub siteAt-here : (makes : ℕ → Make) (made : Made) (earlier : List Made)
+    → siteAt makes (made .at) (made ∷ earlier) ≡ siteAfter (siteAt makes (made .at) earlier) (made .call) (made .result)
 unfolding siteIf
-siteAt-here made earlier =
-    siteAt-siteIf (made .at) made earlier
-    ∙ ap (λ b. siteIf b (siteAt (made .at) earlier) (made .call) (made .result)) (eq-eqb (made .at) (made .at) refl)
+siteAt-here makes made earlier =
+    siteAt-siteIf makes (made .at) made earlier
+    ∙ ap (λ b. siteIf b (siteAt makes (made .at) earlier) (made .call) (made .result)) (eq-eqb (made .at) (made .at) refl)
 
-pub siteAt-other : (i : ℕ) (made : Made) (earlier : List Made) → i ≢ made .at → siteAt i (made ∷ earlier) ≡ siteAt i earlier
+pub siteAt-other : (makes : ℕ → Make) (i : ℕ) (made : Made) (earlier : List Made) → i ≢ made .at → siteAt makes i (made ∷ earlier) ≡ siteAt makes i earlier
 unfolding siteIf
-siteAt-other i made earlier other =
-    siteAt-siteIf i made earlier ∙ ap (λ b. siteIf b (siteAt i earlier) (made .call) (made .result)) (ne-eqb i (made .at) other)
-    ∙ (λ j. record { panel = recordAt i earlier; log = append-nil (logAt i earlier) j; sent = sentAt i earlier; taken = takenAt i earlier; time = timeAt i earlier })
+siteAt-other makes i made earlier other =
+    siteAt-siteIf makes i made earlier ∙ ap (λ b. siteIf b (siteAt makes i earlier) (made .call) (made .result)) (ne-eqb i (made .at) other)
+    ∙ (λ j. record { panel = recordAt makes i earlier; log = append-nil (logAt i earlier) j; sent = sentAt i earlier; taken = takenAt i earlier; time = timeAt i earlier })
 
 -- ---- a refused call changes nothing
 

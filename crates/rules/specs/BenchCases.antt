@@ -5,10 +5,11 @@ use mathlib.Core.Bool.{true, false}
 use mathlib.Core.List.{List, [], _∷_, _++_}
 use lib.ListN.{take, drop, replicate}
 use Rattle.frame.specs.Message.{Message, messageOf}
-use Rattle.rules.specs.Panel.{Panel, none64, fresh}
+use Rattle.rules.specs.Panel.{oldMake, newMake, Panel, none64, fresh}
 use Rattle.rules.specs.Calls.{beaconLifetime}
 use Rattle.rules.specs.Results.{send, receive, clock}
 use Rattle.rules.specs.Cases.{Step, step, Look, look, of, panelOf, output, buffer, logged, frameFrom, zeros8, sent, taken, refusedWith}
+use Rattle.rules.specs.BarrierCases.{caseYard, caseYardMixed, caseRemoved, caseOwn}
 use Rattle.rules.specs.FarAheadCases.{farFrame1, farFrame2, caseFarAhead, caseFarAheadStays, caseLastDays}
 
 -- ---- 1: panel 3, time 100, sends 4F 4B with lifetime 0: deadline 7300; 21 bytes
@@ -99,10 +100,11 @@ case6 =
 unfoldable pub case7 : List Step
 case7 =
     let waitsFor7 = of ((7, 800) ∷ []) in
-    let three = of ((5, 900) ∷ (7, 800) ∷ (9, 900) ∷ []) in
+    let marks = of ((5, 900) ∷ (7, 800) ∷ (9, 900) ∷ []) in
+    let barrier = of ((5, 900) ∷ (9, 900) ∷ []) in
     step (panelOf 0 0 0 none64 none64 (messageOf 9 900 waitsFor7 [] ∷ messageOf 5 900 waitsFor7 [] ∷ []))
     (receive (frameFrom (0x07 ∷ 0x00 ∷ 0x00 ∷ 0x03 ∷ 0x20 ∷ zeros8) (0x00 ∷ [])) output)
-    (taken (panelOf 0 0 900 three three [])
+    (taken (panelOf 0 0 900 marks barrier [])
     (logged (7 ∷ 0x00 ∷ 0x00 ∷ 0x03 ∷ 0x20 ∷ 0 ∷ []) ∷ logged (5 ∷ 0x00 ∷ 0x00 ∷ 0x03 ∷ 0x84 ∷ 0 ∷ [])
     ∷ logged (9 ∷ 0x00 ∷ 0x00 ∷ 0x03 ∷ 0x84 ∷ 0 ∷ []) ∷ []))
     ∷ []
@@ -220,8 +222,8 @@ caseTrace =
     let of6 = frameFrom (0x06 ∷ []) (drop 6 after) in
     let had : List (ℕ × ℕ) → Panel = λ marks. panelOf 0 0 900 (of marks) none64 [] in
     let all : List (ℕ × ℕ) = (3, 800) ∷ (7, 800) ∷ (9, 800) ∷ [] in
-    look (fresh 0) frame1 0 true 0  -- no bit is set
-    ∷ look (fresh 0) frame2 0 false 1
+    look (fresh newMake 0) frame1 0 true 0  -- no bit is set
+    ∷ look (fresh newMake 0) frame2 0 false 1
     ∷ look (had []) after 0 false 1
     ∷ look (had ((3, 800) ∷ [])) after 0 false 2  -- the empty bits between are not visited, nor is 9 behind
     ∷ look (had ((7, 800) ∷ (9, 800) ∷ [])) after 0 false 1  -- lowest first
@@ -233,8 +235,8 @@ caseTrace =
     ∷ look (had ((5, 900) ∷ (3, 800) ∷ [])) after 22 false 2
     ∷ look (panelOf 0 0 900 (of ((3, 800) ∷ [])) none64 (queue 32)) after 22 false 2  -- it waits already
     ∷ look (panelOf 0 0 900 (of ((3, 800) ∷ [])) none64 (queue 32)) of6 23 false 2
-    ∷ look (fresh 0) farFrame1 32 true 0  -- too far ahead
-    ∷ look (fresh 0) farFrame2 32 false 1
+    ∷ look (fresh newMake 0) farFrame1 32 true 0  -- too far ahead
+    ∷ look (fresh newMake 0) farFrame2 32 false 1
     ∷ look (panelOf 0 0 900 (of all) none64 (queue 32)) of6 0 true 3
     ∷ look (panelOf 64 0 900 (of ((3, 800) ∷ [])) none64 []) after 26 false 2  -- a broken record has marks and a time all the same
     ∷ look (had all) (take 18 after) 1 false 0
@@ -246,4 +248,5 @@ caseTrace =
 abbrev pub benchCases : List (List Step)
 benchCases =
     case1 ∷ case2 ∷ case3 ∷ case4 ∷ case5 ∷ case6 ∷ case7 ∷ case8 ∷ case9 ∷ case10 ∷ case11 ∷ caseBeacon ∷ caseOrder ∷ caseUnreached ∷ caseFarAhead ∷ caseFarAheadStays
-    ∷ caseLastDays ∷ []
+    ∷ caseLastDays ∷ caseYard newMake ∷ caseYard oldMake ∷ caseYardMixed newMake newMake ∷ caseYardMixed newMake oldMake ∷ caseYardMixed oldMake newMake
+    ∷ caseYardMixed oldMake oldMake ∷ caseRemoved ∷ caseOwn ∷ []

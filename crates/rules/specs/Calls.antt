@@ -35,7 +35,7 @@ newMessage p payload lifetime = messageOf (p .own) (sendDeadline p lifetime) (p 
 
 -- the record with its barrier emptied
 abbrev pub emptied : Panel → Panel
-emptied p = record { own = p .own; time = p .time; high = p .high; marks = p .marks; barrier = none64; waiting = p .waiting }
+emptied p = record { own = p .own; time = p .time; high = p .high; marks = p .marks; barrier = none64; waiting = p .waiting; make = p .make }
 
 -- After that the barrier is emptied, the own message is handed, and the panel settles.
 unfoldable pub sending : Panel → List ℕ → ℕ → Settled
@@ -51,7 +51,7 @@ receiving p m = cond (ready p m) (handAndSettle p m) (settle (withWaiting p (p .
 
 -- the record with its time set
 abbrev pub withTime : Panel → ℕ → Panel
-withTime p time = record { own = p .own; time = time; high = p .high; marks = p .marks; barrier = p .barrier; waiting = p .waiting }
+withTime p time = record { own = p .own; time = time; high = p .high; marks = p .marks; barrier = p .barrier; waiting = p .waiting; make = p .make }
 
 -- the messages of the list that have not lapsed
 unfoldable pub alive : Panel → List Message → List Message

@@ -6,7 +6,7 @@ use mathlib.Core.Bool.{Bool}
 use mathlib.Core.List.{List, [], _∷_, _++_, map, flatten}
 use lib.ListN.{length, take, drop, set, replicate}
 use Rattle.frame.specs.Message.{Message}
-use Rattle.rules.specs.Panel.{Panel, none64}
+use Rattle.rules.specs.Panel.{newMake, Panel, none64}
 use Rattle.rules.specs.Results.{Call, Result, defined}
 use Rattle.rules.specs.Visiting.{Trace, trace}
 
@@ -46,10 +46,10 @@ abbrev pub of : List (ℕ × ℕ) → List ℕ
 of [] = none64
 of (n ∷ ns) = set (of ns) (n .0) (n .1)
 
--- own number, time, high, marks, barrier, waiting
+-- own number, time, high, marks, barrier, waiting; of the new make
 abbrev pub panelOf : ℕ → ℕ → ℕ → List ℕ → List ℕ → List Message → Panel
 panelOf own time high marks barrier waiting =
-    record { own = own; time = time; high = high; marks = marks; barrier = barrier; waiting = waiting }
+    record { own = own; time = time; high = high; marks = marks; barrier = barrier; waiting = waiting; make = newMake }
 
 -- the buffers as they are lent
 abbrev pub output : List ℕ

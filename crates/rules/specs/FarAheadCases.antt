@@ -25,18 +25,19 @@ caseFarAhead =
     let line1 = logged (1 ∷ 0x00 ∷ 0x1e ∷ 0x84 ∷ 0xe4 ∷ 0 ∷ []) in
     let line2 = logged (2 ∷ 0x00 ∷ 0x1e ∷ 0x84 ∷ 0xe5 ∷ 0 ∷ []) in
     let only1 = of ((1, 2000100) ∷ []) in
+    let only2 = of ((2, 2000101) ∷ []) in
     let both = of ((1, 2000100) ∷ (2, 2000101) ∷ []) in
     let with1 : ℕ → Panel = λ time. panelOf 0 time 2000100 only1 only1 [] in
     step (panelOf 1 2000000 0 none64 none64 []) (send [] 100 output buffer) (sent (panelOf 1 2000000 2000100 only1 only1 []) (line1 ∷ []) farFrame1)
     ∷ step (panelOf 2 500 2000100 only1 only1 []) (send [] 50 output buffer)
-    (sent (panelOf 2 500 2000101 both (of ((2, 2000101) ∷ [])) []) (line2 ∷ []) farFrame2)
+    (sent (panelOf 2 500 2000101 both only2 []) (line2 ∷ []) farFrame2)
     ∷ step (panel0At 500) (receive farFrame1 output) (refusedWith 32 (panel0At 500) output [])
     ∷ step (panel0At 500) (receive farFrame2 output) (refusedWith 32 (panel0At 500) output [])
     ∷ step (panel0At 500) (clock 790500 output) (taken (panel0At 790500) [])
     ∷ step (panel0At 790500) (receive farFrame2 output) (refusedWith 32 (panel0At 790500) output [])  -- one above the sum
     ∷ step (panel0At 790500) (receive farFrame1 output) (taken (with1 790500) (line1 ∷ []))  -- equal to the sum
     ∷ step (with1 790500) (clock 790501 output) (taken (with1 790501) [])
-    ∷ step (with1 790501) (receive farFrame2 output) (taken (panelOf 0 790501 2000101 both both []) (line2 ∷ []))
+    ∷ step (with1 790501) (receive farFrame2 output) (taken (panelOf 0 790501 2000101 both only2 []) (line2 ∷ []))
     ∷ []
 
 -- ---- what waits or stands in the log stays. Panel 0 at 500 has 2,000,100 of panel 1 in its log, and one of panel 5 waits for 800 of panel 7.
@@ -57,7 +58,7 @@ caseFarAheadStays =
     ∷ step panel (receive farFrame1 output) (refusedWith 32 panel output [])  -- it is at most the mark too
     ∷ step panel (receive copy output) (refusedWith 32 panel output [])  -- it waits already too
     ∷ step panel (receive (frameFrom (0x07 ∷ 0x00 ∷ 0x00 ∷ 0x03 ∷ 0x20 ∷ zeros8) (0x00 ∷ [])) output)
-    (taken (panelOf 0 500 2000100 all all [])
+    (taken (panelOf 0 500 2000100 all (of ((1, 2000100) ∷ (5, 2000100) ∷ [])) [])
     (logged (7 ∷ 0x00 ∷ 0x00 ∷ 0x03 ∷ 0x20 ∷ 0 ∷ []) ∷ logged (5 ∷ 0x00 ∷ 0x1e ∷ 0x84 ∷ 0xe4 ∷ 0 ∷ []) ∷ []))
     ∷ []
 

@@ -1,15 +1,30 @@
--- Document 01, "The panel record": handing a message (the field's causal delivery), and its log record.
+-- Document 01, "The panel record", and document 02, W-204: handing a message (the field's causal delivery), and its log record.
 use Prim.Native.Nat.{ℕ, _-_, max}
+use mathlib.Core.Bool.{cond}
 use mathlib.Core.List.{List, [], _∷_, _++_}
 use lib.ListN.{length, getD, set, replicate}
+use lib.Dec.{leb}
 use Rattle.numbers.specs.Numbers.{bigEndian}
 use Rattle.frame.specs.Message.{Message}
 use Rattle.rules.specs.Sizes.{width}
-use Rattle.rules.specs.Panel.{Panel}
+use Rattle.rules.specs.Panel.{Make, oldMake, newMake, Panel}
 
 -- the number of the message's source becomes the larger of itself and its deadline
 unfoldable pub raise : List ℕ → Message → List ℕ
 raise numbers m = set numbers (m .source) (max (getD numbers (m .source) 0) (m .deadline))
+
+-- the barrier without each entry that is at most the entry of a message for the same panel. (Where the message has none, which is 0, the
+-- barrier's entry stays.)
+unfoldable pub shortened : List ℕ → List ℕ → List ℕ
+shortened [] entries = []
+shortened (b ∷ barrier) [] = b ∷ barrier
+shortened (b ∷ barrier) (entry ∷ entries) = cond (leb b entry) 0 b ∷ shortened barrier entries
+
+-- Document 02, W-204: "When a message is handed, each barrier entry that is at most the entry this message carries for the same panel is
+-- removed, before the message's own goes in." A panel of the old make removes none.
+unfoldable pub barrierFor : Make → Panel → Message → List ℕ
+barrierFor oldMake p m = p .barrier
+barrierFor newMake p m = shortened (p .barrier) (m .entries)
 
 -- Handing: the mark and the barrier entry of its source each become the larger of themselves and its deadline; high becomes the larger of
 -- itself and the deadline. (One log record is written to the output: `done` writes those of all messages handed.)
@@ -20,8 +35,9 @@ hand p m =
       time = p .time;
       high = max (p .high) (m .deadline);
       marks = raise (p .marks) m;
-      barrier = raise (p .barrier) m;
+      barrier = raise (barrierFor (p .make) p m) m;
       waiting = p .waiting;
+      make = p .make;
     }
 
 -- A log record has 38 bytes:

@@ -21,4 +21,5 @@ pub mod Demand3
 pub mod FarAhead
 pub mod Cases
 pub mod FarAheadCases
+pub mod BarrierCases
 pub mod BenchCases

@@ -9,7 +9,7 @@ use lib.Dec.{eqb}
 use Rattle.numbers.specs.Numbers.{Bytes, numberAt}
 use Rattle.frame.specs.Reading.{messageIn}
 use Rattle.rules.specs.Sizes.{width, logRecordLength}
-use Rattle.rules.specs.Panel.{Name, nameOf, Panel, fresh}
+use Rattle.rules.specs.Panel.{Name, nameOf, Make, Panel, fresh}
 use Rattle.rules.specs.Results.{Call, send, receive, clock, Result, Promised}
 
 -- x is an element of the list
@@ -34,10 +34,10 @@ ifDone result done otherwise = cond (eqb (result .number) 0) done otherwise
 
 -- ---- the record that a call works on
 
--- Each call works on the record that the last call on that panel gave back, at first the fresh one.
-unfoldable pub recordAt : ℕ → List Made → Panel
-recordAt panel [] = fresh panel
-recordAt panel (made ∷ earlier) = cond (on panel made) (made .result .panel) (recordAt panel earlier)
+-- Each call works on the record that the last call on that panel gave back, at first the fresh one of the panel's make.
+unfoldable pub recordAt : (ℕ → Make) → ℕ → List Made → Panel
+recordAt makes panel [] = fresh (makes panel) panel
+recordAt makes panel (made ∷ earlier) = cond (on panel made) (made .result .panel) (recordAt makes panel earlier)
 
 -- ---- sent, taken
 
@@ -130,13 +130,13 @@ Lawful [] = Unit {0}
 Lawful (made ∷ earlier) = Given (sends earlier) (made .call) (made .result) × Lawful earlier
 
 -- each call gave what it promises
-abbrev pub AllPromised : List Made → Type 0
-AllPromised [] = Unit {0}
-AllPromised (made ∷ earlier) = Promised (recordAt (made .at) earlier) (made .call) (made .result) × AllPromised earlier
+abbrev pub AllPromised : (ℕ → Make) → List Made → Type 0
+AllPromised makes [] = Unit {0}
+AllPromised makes (made ∷ earlier) = Promised (recordAt makes (made .at) earlier) (made .call) (made .result) × AllPromised makes earlier
 
 -- the list that comes of these calls, the latest first, each with the result that a module gives
-abbrev pub ran : (Panel → Call → Result) → List (ℕ × Call) → List Made
-ran gives [] = []
-ran gives (next ∷ earlier) =
-    let made = ran gives earlier in
-    record { at = next .0; call = next .1; result = gives (recordAt (next .0) made) (next .1) } ∷ made
+abbrev pub ran : (ℕ → Make) → (Panel → Call → Result) → List (ℕ × Call) → List Made
+ran makes gives [] = []
+ran makes gives (next ∷ earlier) =
+    let made = ran makes gives earlier in
+    record { at = next .0; call = next .1; result = gives (recordAt makes (next .0) made) (next .1) } ∷ made

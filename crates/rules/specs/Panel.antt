@@ -14,9 +14,15 @@ pub record Name : Type 0 where
 abbrev pub nameOf : Message → Name
 nameOf m = record { source = m .source; deadline = m .deadline }
 
+-- Document 02, W-204: "Old and new panels share a farm." A panel of the new make shortens its barrier as it hands a message.
+pub data Make : Type 0 where
+  oldMake : Make
+  newMake : Make
+
 -- Own number; time; high; 64 marks; 64 barrier entries; up to 32 waiting messages in the order taken, each with the fields and payload of its
 -- frame. A mark is the largest deadline in this panel's log from that source; 0 means none. A barrier entry of 0 means that the source has no
 -- entry. (In the field's terms: the marks are the registry of what was delivered, the barrier is the causal barrier, waiting is pending.)
+-- The make stands beside them, as handing goes by it. No call changes it, no frame carries it, and the module's own panels are of the new one.
 pub record Panel : Type 0 where
   pub own : ℕ
   pub time : ℕ
@@ -24,14 +30,15 @@ pub record Panel : Type 0 where
   pub marks : List ℕ
   pub barrier : List ℕ
   pub waiting : List Message
+  pub make : Make
 
 -- 64 marks or barrier entries, all 0
 unfoldable pub none64 : List ℕ
 none64 = replicate 64 0
 
 -- A fresh panel has time 0, high 0, all marks and barrier entries 0, and nothing waiting.
-unfoldable pub fresh : ℕ → Panel
-fresh own = record { own = own; time = 0; high = 0; marks = none64; barrier = none64; waiting = [] }
+unfoldable pub fresh : Make → ℕ → Panel
+fresh make own = record { own = own; time = 0; high = 0; marks = none64; barrier = none64; waiting = []; make = make }
 
 -- Lapsed: deadline below the panel's time. A deadline equal to the time is alive.
 unfoldable pub lapsed : Panel → ℕ → Bool

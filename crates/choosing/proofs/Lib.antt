@@ -1,4 +1,3 @@
--- Laws of the choice: set bits of a mask, the first among messages looked at, and the messages in the slots listed.
-pub mod SetBits
+-- Laws of the choice: the first among messages looked at, and the messages in the slots listed.
 pub mod Choosing
 pub mod Holding

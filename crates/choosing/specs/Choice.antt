@@ -6,12 +6,12 @@ use mathlib.Core.List.{List, []}
 use lib.ListN.{getD}
 use lib.Dec.{ltb, eqb}
 use Rattle.frame.specs.Message.{Message, messageOf}
-use Rattle.rules.specs.Panel.{Panel}
+use Rattle.rules.specs.Panel.{newMake, Panel}
 use Rattle.choosing.specs.declared.First.{First}
 
 -- a record of these marks and this time, which is all that ready asks for
 abbrev pub asking : List ℕ → ℕ → Panel
-asking marks time = record { own = 0; time = time; high = 0; marks = marks; barrier = []; waiting = [] }
+asking marks time = record { own = 0; time = time; high = 0; marks = marks; barrier = []; waiting = []; make = newMake }
 
 -- ---- the choice
 

@@ -1,6 +1,6 @@
-// Handing: a message's log record goes behind those before it, and high, its source's mark and barrier
-// entry become at least its deadline. An internal crate. Preconditions: readable frames, and room in the
-// output; the calls of a panel refuse anything else.
+// Handing: barrier entries that the message covers are removed; its log record goes behind those before
+// it, and high, its source's mark and barrier entry become at least its deadline. An internal crate.
+// Preconditions: readable frames, and room in the output; the calls of a panel refuse anything else.
 use numbers::number_at;
 use numbers::put_bytes;
 use numbers::put_number;
@@ -8,10 +8,12 @@ use slots::deadline;
 use slots::source;
 ghost use mathlib.Core.Path.{_≡_};
 ghost use Prim.Native.Nat.{_+_, _*_, _≤_, max};
+ghost use mathlib.Core.Bool.{cond};
 ghost use lib.ListN.{length, replicate};
+ghost use lib.Dec.{leb};
 ghost use Rattle.numbers.specs.Buffer.{over};
 ghost use Rattle.frame.specs.Reading.{messageIn};
-ghost use Rattle.rules.specs.Handing.{raise, logRecord};
+ghost use Rattle.rules.specs.Handing.{raise, shortened, logRecord};
 ghost use Rattle.slots.specs.Slots.{Reads};
 
 // Puts zeros from a place on.
@@ -50,9 +52,9 @@ fn larger(a: u32, b: u32) -> u32
     b
 }
 
-// Hands the message of a readable frame, and answers the record's new high. Its log record stands
-// behind those of the messages handed before it.
-pub fn hand(
+// Puts the message of a readable frame into the log, and answers the record's new high. Its log record
+// stands behind those of the messages handed before it.
+pub fn put_in_log(
     high: u32,
     handed: usize,
     marks: &mut [u32; 64],
@@ -73,4 +75,53 @@ pub fn hand(
     marks[source] = larger(marks[source], deadline);
     barrier[source] = larger(barrier[source], deadline);
     larger(high, deadline)
+}
+
+// What is left of a barrier entry, where a message carries an entry for the same panel: none, which is
+// 0, if it is at most that one.
+fn remaining(entry: u32, carried: u32) -> u32
+    ensures { λ r. ⌜ r ≡ cond (leb entry carried) 0 entry ⌝ }
+{
+    if entry <= carried {
+        return 0;
+    }
+    entry
+}
+
+// Removes each barrier entry that is at most the entry which the message of a readable frame carries
+// for the same panel: from set bit to set bit of its mask.
+fn shorten(barrier: &mut [u32; 64], frame: &[u8])
+    requires { ⌜ Reads (now frame) ⌝ }
+    ensures { λ _. ⌜ now (barrier .exit) ≡ shortened (now (barrier .entry)) (messageIn 4 (now (frame .entry)) .entries) ⌝ }
+{
+    let mut bits = number_at(frame, 10, 8);
+    let mut passed = 0;
+    while bits != 0 {
+        let panel = u64::trailing_zeros(bits) as usize;
+        let carried = number_at(frame, 18 + 4 * passed, 4) as u32;
+        barrier[panel] = remaining(barrier[panel], carried);
+        bits = bits & (bits - 1);
+        passed += 1;
+    }
+}
+
+// Hands the message of a readable frame, and answers the record's new high: the barrier is shortened,
+// and then the message put into the log. (A send's own message finds an empty barrier, and is only put
+// into the log.)
+pub fn hand(
+    high: u32,
+    handed: usize,
+    marks: &mut [u32; 64],
+    barrier: &mut [u32; 64],
+    frame: &[u8],
+    output: &mut [u8],
+) -> u32
+    requires { ⌜ Reads (now frame) × (handed * 38 + 38 ≤ length (now output)) ⌝ }
+    ensures { λ r. ⌜ (r ≡ max high (messageIn 4 (now (frame .entry)) .deadline))
+        × (now (marks .exit) ≡ raise (now (marks .entry)) (messageIn 4 (now (frame .entry))))
+        × (now (barrier .exit) ≡ raise (shortened (now (barrier .entry)) (messageIn 4 (now (frame .entry)) .entries)) (messageIn 4 (now (frame .entry))))
+        × (now (output .exit) ≡ over (now (output .entry)) (handed * 38) (logRecord (messageIn 4 (now (frame .entry))))) ⌝ }
+{
+    shorten(barrier, frame);
+    put_in_log(high, handed, marks, barrier, frame, output)
 }

@@ -2,7 +2,7 @@
 use Prim.Native.Nat.{ℕ}
 use mathlib.Core.Path.{_≡_}
 use mathlib.Core.List.{List}
-use Rattle.rules.specs.Panel.{Panel as Record}
+use Rattle.rules.specs.Panel.{Panel as Record, newMake}
 use Rattle.rules.specs.Settling.{settle}
 use Rattle.rules.specs.Results.{Call, Result, Promised}
 use Rattle.slots.specs.Slots.{held, firstSlots}
@@ -26,7 +26,7 @@ abbrev pub parts : ℕ → ℕ → ℕ → ℕ → List ℕ → List ℕ → Lis
 parts own time high count marks barrier slots =
     record { own = own; time = time; high = high; count = count; marks = marks; barrier = barrier; slots = slots }
 
--- the record that the parts hold
+-- the record that the parts hold: the module's panels are of the new make
 abbrev pub recordOf : Parts → Record
 recordOf p =
     record {
@@ -36,6 +36,7 @@ recordOf p =
       marks = p .marks;
       barrier = p .barrier;
       waiting = held (p .slots) (firstSlots (p .count));
+      make = newMake;
     }
 
 -- ---- the promise

@@ -14,7 +14,7 @@ use Rattle.frame.specs.Reading.{maskIn, messageIn}
 use Rattle.frame.proofs.Passed.{zero-passed}
 use Rattle.rules.specs.Sizes.{width, bufferLength}
 use Rattle.rules.specs.Panel.{Panel, ready}
-use Rattle.rules.specs.Handing.{raise, hand, logRecord, logRecords}
+use Rattle.rules.specs.Handing.{raise, shortened, barrierFor, hand, logRecord, logRecords}
 use Rattle.rules.specs.Settling.{withWaiting}
 use Rattle.slots.specs.Slots.{slotLength, Reads, Slots, Kept, held, firstSlots}
 use Rattle.slots.proofs.Held.{carried-reads}
@@ -70,8 +70,10 @@ module _ (s : Settling) (marks barrier slots output frame : List ℕ) (reads : R
 
   -- ready, it is handed
   handed-now : ready (asking marks (s .time)) m ≡ true
-      → Taken m slots before slots (stage (oneMore (max (s .high) (m .deadline))) (firstSlots 32) (raise marks m) (raise barrier m) (over output (outputPlace s) (logRecord m)))
-  unfolding hand logRecords
+      → Taken m slots before slots
+      (stage (oneMore (max (s .high) (m .deadline))) (firstSlots 32) (raise marks m) (raise (shortened barrier (m .entries)) m)
+      (over output (outputPlace s) (logRecord m)))
+  unfolding hand barrierFor logRecords
   handed-now e =
       let p = panelAt slots before in
       let now-ready = sym (ready-asking p m) ∙ e in
@@ -91,7 +93,7 @@ module _ (s : Settling) (marks barrier slots output frame : List ℕ) (reads : R
       }
 
   pub taken-handed : ready (asking marks (s .time)) m ≡ true → (high : ℕ) (marksAfter barrierAfter outputAfter : List ℕ)
-      → high ≡ max (s .high) (m .deadline) → marksAfter ≡ raise marks m → barrierAfter ≡ raise barrier m
+      → high ≡ max (s .high) (m .deadline) → marksAfter ≡ raise marks m → barrierAfter ≡ raise (shortened barrier (m .entries)) m
       → outputAfter ≡ over output (outputPlace s) (logRecord m)
       → Taken m slots before slots (stage (oneMore high) (firstSlots 32) marksAfter barrierAfter outputAfter)
   taken-handed ready high marksAfter barrierAfter outputAfter e em eb eo = rw (e, em, eb, eo) (handed-now ready)

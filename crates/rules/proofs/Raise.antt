@@ -40,7 +40,7 @@ raise-le ns m panel =
 -- ---- the barrier that a message's own deadline goes into
 
 -- where the message has no entry, the barrier's stays
-without-entry : (b : ℕ) → cond (leb b 0) 0 b ≡ b
+pub without-entry : (b : ℕ) → cond (leb b 0) 0 b ≡ b
 without-entry b = cond-both (λ n. n ≡ b) (leb b 0) (λ e. omega (arith, leb-true b 0 e)) (λ _. refl)
 
 pub getD-shortened : (barrier entries : List ℕ) (k : ℕ)
@@ -85,6 +85,19 @@ zeros (suc n) (suc panel) = zeros n panel
 pub getD-none64 : (panel : ℕ) → getD none64 panel 0 ≡ 0
 unfolding none64
 getD-none64 panel = zeros 64 panel
+
+-- of an empty barrier nothing is removed
+shortened-zeros : (n : ℕ) (entries : List ℕ) → shortened (replicate n 0) entries ≡ replicate n 0
+unfolding shortened
+shortened-zeros zero entries = refl
+shortened-zeros (suc n) [] = refl
+shortened-zeros (suc n) (entry ∷ entries) =
+    cond-both (λ b. (b ∷ shortened (replicate n 0) entries) ≡ 0 ∷ replicate n 0) (leb 0 entry) (λ _. ap (λ l. 0 ∷ l) (shortened-zeros n entries))
+    (λ _. ap (λ l. 0 ∷ l) (shortened-zeros n entries))
+
+pub shortened-none64 : (entries : List ℕ) → shortened none64 entries ≡ none64
+unfolding none64
+shortened-none64 entries = shortened-zeros 64 entries
 
 pub length-none64 : length none64 ≡ 64
 unfolding none64

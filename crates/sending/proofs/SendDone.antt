@@ -17,12 +17,13 @@ use Rattle.frame.proofs.Theorems.{frame-size}
 use Rattle.writing.specs.Written.{written, writtenLength}
 use Rattle.writing.proofs.Written.{written-frame}
 use Rattle.rules.specs.Sizes.{width}
-use Rattle.rules.specs.Panel.{Panel as Record, none64}
-use Rattle.rules.specs.Handing.{raise, hand, logRecord, logRecords}
+use Rattle.rules.specs.Panel.{Panel as Record, newMake, none64}
+use Rattle.rules.specs.Handing.{raise, barrierFor, hand, logRecord, logRecords}
 use Rattle.rules.specs.Settling.{settle, withWaiting}
 use Rattle.rules.specs.Calls.{sendDeadline, newMessage, emptied, handAndSettle, sending}
 use Rattle.rules.specs.Refusals.{broken, sendChecks}
 use Rattle.rules.specs.Results.{Promised, send}
+use Rattle.rules.proofs.Raise.{shortened-none64}
 use Rattle.rules.proofs.Checks.{SendPassed, send-passed, new-readable}
 use Rattle.rules.proofs.LogRecords.{length-logRecord}
 use Rattle.slots.specs.Slots.{Reads, Kept, firstSlots}
@@ -87,9 +88,24 @@ module _ {p : Parts} {payload : List ℕ} {lifetime : ℕ} {output buffer : List
       let message : messageIn width part ≡ new = ap (messageIn width) is ∙ frame-message width new (omega arith, omega arith) readable in
       rw (e, ep, em, eb, eo, message)
 
+  -- of the empty barrier nothing is removed
+  abbrev handedWith : List Message → List ℕ → Record
+  handedWith waiting barrier =
+      record {
+        own = p .own;
+        time = p .time;
+        high = max (p .high) (new .deadline);
+        marks = raise (p .marks) new;
+        barrier = raise barrier new;
+        waiting = waiting;
+        make = newMake;
+      }
+
   panel-handed : Kept (p .slots) (p .count) → panelAt (p .slots) handedStage ≡ hand (emptied given) new
-  unfolding hand
-  panel-handed kept = ap (λ (ms : List Message). withWaiting (hand (emptied given) new) ms) (held-order (p .slots) (p .count) (kept .few))
+  unfolding hand barrierFor
+  panel-handed kept =
+      ap (λ (ms : List Message). handedWith ms none64) (held-order (p .slots) (p .count) (kept .few))
+      ∙ ap (handedWith (given .waiting)) (sym (shortened-none64 (new .entries)))
 
   pub sent-done : Kept (p .slots) (p .count) → (slots′ : List ℕ) (after : Stage) (back : Record) → SettlesSlots (p .slots) handedStage slots′ after
       → back ≡ settle (panelAt (p .slots) handedStage) .panel

@@ -2,7 +2,7 @@
 // and beside it the output and the frame buffer; own number and time it only reads. It accepts any
 // input, and what it promises is document 01's send, for every argument. An internal crate: `exports`,
 // `beacon` and `by_value` have the public calls.
-use handing::hand;
+use handing::put_in_log;
 use lifetimes::send_deadline;
 use parts::Answer;
 use parts::broken;
@@ -70,7 +70,7 @@ pub fn send_in_place(
     let length = write(own, deadline as u32, barrier, payload, buffer);
     *barrier = [0u32; 64];
     let frame = &buffer[0..length];
-    *high = hand(*high, 0, marks, barrier, frame, output);
+    *high = put_in_log(*high, 0, marks, barrier, frame, output);
     let places = in_order();
     let mut handed = 1;
     *count = settle_slots(

@@ -13,7 +13,7 @@ use Rattle.frame.specs.Message.{Message, messageOf}
 use Rattle.frame.specs.Reading.{messageIn}
 use Rattle.rules.specs.Sizes.{width, logRecordLength}
 use Rattle.rules.specs.Panel.{Panel}
-use Rattle.rules.specs.Handing.{raise, hand, logRecord, logRecords}
+use Rattle.rules.specs.Handing.{raise, shortened, barrierFor, hand, logRecord, logRecords}
 use Rattle.rules.specs.Settling.{choice, without, withWaiting, waitingAt, Settled, goOn, settle}
 use Rattle.rules.proofs.Choice.{choice-some}
 use Rattle.rules.proofs.Settling.{settle-step}
@@ -64,8 +64,8 @@ module _ (slots : List ℕ) (place : ℕ) (s : Settling) (places rest marks barr
   it = held-at slots (s .waiting) places place (messageOf 0 0 [] []) listed (omega (arith, listed .few)) lt ∙ is
 
   handed-one : HandedAt slots place before
-      (stage (oneHanded s (max (s .high) (m .deadline))) rest (raise marks m) (raise barrier m) (over output (outputPlace s) (logRecord m)))
-  unfolding hand
+      (stage (oneHanded s (max (s .high) (m .deadline))) rest (raise marks m) (raise (shortened barrier (m .entries)) m) (over output (outputPlace s) (logRecord m)))
+  unfolding hand barrierFor
   handed-one =
       record {
         panel = rw it (simp messages);
@@ -76,7 +76,7 @@ module _ (slots : List ℕ) (place : ℕ) (s : Settling) (places rest marks barr
       }
 
   pub handed-at : (high : ℕ) (marksAfter barrierAfter outputAfter : List ℕ) → high ≡ max (s .high) (m .deadline) → marksAfter ≡ raise marks m
-      → barrierAfter ≡ raise barrier m → outputAfter ≡ over output (outputPlace s) (logRecord m)
+      → barrierAfter ≡ raise (shortened barrier (m .entries)) m → outputAfter ≡ over output (outputPlace s) (logRecord m)
       → HandedAt slots place before (stage (oneHanded s high) rest marksAfter barrierAfter outputAfter)
   handed-at high marksAfter barrierAfter outputAfter e em eb eo = rw (e, em, eb, eo) handed-one
 

@@ -8,7 +8,7 @@ use lib.Dec.{ltb}
 use Rattle.numbers.specs.Buffer.{over}
 use Rattle.frame.specs.Message.{Message}
 use Rattle.rules.specs.Sizes.{logRecordLength}
-use Rattle.rules.specs.Panel.{Panel}
+use Rattle.rules.specs.Panel.{newMake, Panel}
 use Rattle.rules.specs.Handing.{logRecords}
 use Rattle.rules.specs.Settling.{settle}
 use Rattle.slots.specs.Slots.{Listed, held}
@@ -39,6 +39,7 @@ panelAt slots s =
       marks = s .marks;
       barrier = s .barrier;
       waiting = held slots (take (s .left .waiting) (s .places));
+      make = newMake;
     }
 
 -- the place in the output behind the log records written

@@ -11,8 +11,9 @@ use lib.ListN.{length, getD}
 use lib.Bits.{and-le-r}
 use Rattle.numbers.specs.Numbers.{numberAt}
 use Rattle.frame.proofs.Passed.{zero-passed}
-use Rattle.choosing.proofs.SetBits.{next}
-use Rattle.choosing.proofs.ready.Proof.Turns.{MetBelow, metBy, met-start, end-ready, end-visits, turn-lt, turn-room, stop-ready, stop-visits, turn-on}
+use Rattle.slots.proofs.SetBits.{next}
+use Rattle.slots.proofs.Walk.{turn-lt, turn-room}
+use Rattle.choosing.proofs.ready.Proof.Turns.{MetBelow, metBy, met-start, end-ready, end-visits, stop-ready, stop-visits, turn-on}
 use Rattle.choosing.proofs.ready.Statement.{statement}
 use Rattle.choosing.proofs.ready.Tie as tie
 
@@ -34,12 +35,12 @@ loop-holds c =
 
 -- in a turn the panel is one of 64, and its entry stands within the frame
 below : (c : tie.In-loop Inv-loop μ-loop) → next (c .before .loop .bits) < 64
-below c = turn-lt _ _ _ _ _ (c .before .loop .inv) (c .loop-test .taken)
+below c = turn-lt (c .before .loop .inv .walk) (c .loop-test .taken)
 
 room : (c : tie.In-loop Inv-loop μ-loop) → 18 + 4 * c .before .loop .visited + 4 ≤ length (now (c .before .before .before .before .args .frame))
 room c =
     let passed = zero-passed 4 _ (c .before .before .before .before .pre) in
-    omega (arith, turn-room _ _ _ _ _ (c .before .loop .inv) (c .loop-test .taken), passed .room)
+    omega (arith, turn-room (c .before .loop .inv .walk) (c .loop-test .taken), passed .room)
 
 cast-panel : tie.Need-cast-panel Inv-loop μ-loop
 cast-panel c = omega (arith, below c)

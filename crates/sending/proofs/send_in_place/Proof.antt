@@ -136,8 +136,8 @@ part-frame-end c =
     let write = c .before .before .before .before in
     omega (arith, wrote write .0, frame-fits (passed (past write)), write .write .kept .1 .1 .1 .1 .0)
 
-hand-requires : tie.Need-hand-requires
-hand-requires c κs =
+put-in-log-requires : tie.Need-put-in-log-requires
+put-in-log-requires c κs =
     let write = c .before .before .before .before .before .before .before .before in
     (rw (part write) (frame-reads (passed (past write))), omega (arith, checked (passed (past write)) .output-room))
 
@@ -147,12 +147,12 @@ in-order-requires c κs = search needs
 settle-slots-requires : tie.Need-settle-slots-requires
 settle-slots-requires c κs =
     let order = c .before .before .before .before .before .before in
-    let hand = order .before .before .before in
-    let write = hand .before .before .before .before .before .before .before .before .before in
+    let put = order .before .before .before in
+    let write = put .before .before .before .before .before .before .before .before .before in
     let P = checked (passed (past write)) in
     let whole = valid-kept (lent (back (past write))) (P .valid) in (
       (all-slots (past write .before .before), rw (order .in-order .ensures) (listed-order _ _ whole)),
-      omega (arith, whole .few, P .output-room, hand .hand .kept .1 .1 .1 .1 .1 .0),
+      omega (arith, whole .few, P .output-room, put .put-in-log .kept .1 .1 .1 .1 .1 .0),
     )
 
 same-length : tie.Need-same-length
@@ -166,10 +166,10 @@ unfolding none64
 returns-2 c =
     let settled = c .before .before in
     let order = settled .before .before .before .before .before .before .before in
-    let hand = order .before .before .before in
-    let write = hand .before .before .before .before .before .before .before .before .before in
+    let put = order .before .before .before in
+    let write = put .before .before .before .before .before .before .before .before .before in
     let P = passed (past write) in
-    let handed = hand .hand in
+    let handed = put .put-in-log in
     let s = settled .settle-slots in
     let stage-is = stage-handed P _ (part write) (handed .result) (order .in-order .result) (handed .last .1 .1 .0) (handed .last .1 .1 .1 .0)
     (handed .last .1 .1 .1 .1 .1 .0)
@@ -194,7 +194,7 @@ send-in-place-spec =
     sub-frame
     part-frame-start
     part-frame-end
-    hand-requires
+    put-in-log-requires
     in-order-requires
     settle-slots-requires
     same-length

@@ -1,0 +1,116 @@
+-- `handing::shorten` meets its contract. Its loop's invariant is `ShortBelow`: below the panel that the walk has come to, the barrier is as it is
+-- to be. Assumes nothing.
+use mathlib.Core.Path.{_≡_, sym, _∙_, subst}
+use Prim.Native.Nat.{ℕ, _+_, _-_, _*_, _^_, _≤_, _<_}
+use native.Mathlib.Omega.{arith}
+use borrow.Author.Needs.{needs}
+use denote.Ref.{now}
+use lib.ListN.{length, getD}
+use lib.Bits.{and-le-r}
+use Rattle.numbers.specs.Numbers.{numberAt}
+use Rattle.frame.proofs.Passed.{zero-passed}
+use Rattle.slots.proofs.SetBits.{next}
+use Rattle.slots.proofs.Walk.{turn-lt, turn-room}
+use Rattle.handing.proofs.Shortening.{remains, ShortBelow, short-start, short-end, short-on}
+use Rattle.handing.proofs.shorten.Statement.{statement}
+use Rattle.handing.proofs.shorten.Tie as tie
+
+abbrev Inv-loop : tie.InvT-loop
+Inv-loop barrier₀ frame bits₀ passed₀ barrier bits passed = ShortBelow frame barrier₀ barrier bits passed
+
+abbrev μ-loop : tie.MeasureT-loop
+μ-loop barrier₀ frame bits₀ passed₀ barrier bits passed = bits
+
+number-at-requires : tie.Need-number-at-requires Inv-loop μ-loop
+number-at-requires c κs = omega (arith, zero-passed 4 _ (c .before .pre) .long)
+
+loop-holds : tie.Need-loop-holds Inv-loop μ-loop
+loop-holds c =
+    let a = c .before .before .args in
+    let mask = c .number-at .ensures .0 in
+    subst (λ (bits : ℕ). ShortBelow (now (a .frame)) (now (a .barrier)) (now (a .barrier)) bits 0) (sym mask)
+    (short-start (now (a .frame)) (now (a .barrier)) (subst (λ (bits : ℕ). bits < 2 ^ 64) mask (c .number-at .ensures .1)))
+
+-- in a turn the panel is one of 64, and its entry stands within the frame
+below : (c : tie.In-loop Inv-loop μ-loop) → next (c .before .loop .bits) < 64
+below c = turn-lt (c .before .loop .inv .walk) (c .loop-test .taken)
+
+room : (c : tie.In-loop Inv-loop μ-loop) → 18 + 4 * c .before .loop .passed + 4 ≤ length (now (c .before .before .before .before .args .frame))
+room c =
+    let passed = zero-passed 4 _ (c .before .before .before .before .pre) in
+    omega (arith, turn-room (c .before .loop .inv .walk) (c .loop-test .taken), passed .room)
+
+cast-panel : tie.Need-cast-panel Inv-loop μ-loop
+cast-panel c = omega (arith, below c)
+
+mul-number-at : tie.Need-mul-number-at Inv-loop μ-loop
+mul-number-at c = search (needs, room c)
+
+add-number-at : tie.Need-add-number-at Inv-loop μ-loop
+add-number-at c = search (needs, room c)
+
+number-at-requires-2 : tie.Need-number-at-requires-2 Inv-loop μ-loop
+number-at-requires-2 c κs = omega (arith, room c)
+
+cast-carried : tie.Need-cast-carried Inv-loop μ-loop
+cast-carried c = search needs
+
+mul-remaining : tie.Need-mul-remaining Inv-loop μ-loop
+mul-remaining c = omega (arith, below (c .before))
+
+element-copy-out-remaining : tie.Need-element-copy-out-remaining Inv-loop μ-loop
+element-copy-out-remaining c = below (c .before)
+
+remaining-requires : tie.Need-remaining-requires Inv-loop μ-loop
+remaining-requires c κs = tt
+
+mul-barrier : tie.Need-mul-barrier Inv-loop μ-loop
+mul-barrier c = omega (arith, below (c .before .before .before))
+
+element-write-barrier : tie.Need-element-write-barrier Inv-loop μ-loop
+element-write-barrier c = below (c .before .before .before)
+
+sub-bits : tie.Need-sub-bits Inv-loop μ-loop
+sub-bits c = omega (arith, c .before .before .before .loop-test .taken)
+
+add-passed : tie.Need-add-passed Inv-loop μ-loop
+add-passed c = search (needs, room (c .before .before .before))
+
+loop-less : tie.Need-loop-less Inv-loop μ-loop
+loop-less c =
+    let turn = c .before .before .before in
+    let bits = turn .before .loop .bits in
+    omega (arith, and-le-r bits (bits - 1), turn .loop-test .taken)
+
+loop-again : tie.Need-loop-again Inv-loop μ-loop
+loop-again c =
+    let turn = c .before .before .before in
+    short-on _ _ _ _ _ (turn .before .loop .inv) (turn .loop-test .taken) (c .remaining .result)
+    (rw (← c .before .before .number-at2 .ensures .0) (c .remaining .ensures))
+
+returns : tie.Need-returns Inv-loop μ-loop
+returns c = short-end _ _ _ _ _ (c .before .loop .inv) (c .loop-test .left)
+
+pub shorten-spec : {M : Type 1} → statement M
+shorten-spec =
+    tie.close
+    (tie.spec
+    Inv-loop
+    μ-loop
+    number-at-requires
+    loop-holds
+    cast-panel
+    mul-number-at
+    add-number-at
+    number-at-requires-2
+    cast-carried
+    mul-remaining
+    element-copy-out-remaining
+    remaining-requires
+    mul-barrier
+    element-write-barrier
+    sub-bits
+    add-passed
+    loop-less
+    loop-again
+    returns)

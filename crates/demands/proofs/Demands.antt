@@ -2,7 +2,7 @@
 use mathlib.Core.Path.{_≡_, _∙_}
 use mathlib.Core.Bool.{true, false}
 use mathlib.Core.Logic.{_≢_}
-use mathlib.Core.List.{List, [], _∷_, map}
+use mathlib.Core.List.{List, [], _∷_}
 use Prim.Native.Nat.{ℕ, _≤_}
 use native.Mathlib.Omega.{arith}
 use lib.ListN.{length, take}
@@ -13,22 +13,24 @@ use Rattle.frame.specs.Reading.{message, refusal, messageIn, reading}
 use Rattle.frame.specs.Readable.{readable}
 use Rattle.frame.proofs.Theorems.{reading-frame, frame-reading}
 use Rattle.rules.specs.Sizes.{width, outputLength}
-use Rattle.rules.specs.Panel.{Name, Panel}
+use Rattle.rules.specs.Panel.{Name, Make, oldMake, Panel}
 use Rattle.rules.specs.Calls.{newMessage}
 use Rattle.rules.specs.Refusals.{tooFarAhead, Listed, freshNumber}
 use Rattle.rules.specs.Results.{Call, send, receive, outputOf, bufferOf, effectOf, refused, defined}
 use Rattle.rules.specs.Visiting.{Counted, trace}
-use Rattle.rules.specs.Lists.{recordAt, sends, Before, Lawful}
+use Rattle.rules.specs.Lists.{recordAt, givenTo, sends, Before, Lawful}
 use Rattle.rules.specs.Demand3.{Demand3}
 use Rattle.rules.specs.FarAhead.{FarAhead}
+use Rattle.rules.specs.Barriers.{OwnGoesIn, asOld, NoLonger, StaysOrGoes}
 use Rattle.rules.proofs.Theorems.{demand-3, number-listed, reading-listed, fresh-listed, trace-listed, refusal-unchanged, sent-reads, trace-waits-reached}
 use Rattle.rules.proofs.Visiting.{visits-counted}
 use Rattle.rules.proofs.Tracing.{trace-number, trace-handed}
 use Rattle.rules.proofs.FarAhead.{far-ahead, causes-near}
+use Rattle.rules.proofs.Raise.{own-goes-in}
+use Rattle.rules.proofs.Barriers.{no-longer, stays-or-goes}
 use Rattle.exports.proofs.Fresh.{freshRecord-within}
-use Rattle.demands.specs.Runs.{Run, madeOf}
 use Rattle.demands.specs.Beginning.{BeginsInPlace, BeginsByValue}
-use Rattle.demands.specs.Lists.{Follows}
+use Rattle.demands.specs.Lists.{FarmCall, farm, Follows}
 use Rattle.demands.proofs.Following.{follows-promised}
 use Rattle.demands.proofs.Calls.{Calls, calls}
 
@@ -49,11 +51,12 @@ pub record Demands (M : Type 1) : Type 2 where
   pub sent-reads : (p : Panel) (payload : List ℕ) (lifetime : ℕ) (output buffer : List ℕ) → length (p .barrier) ≡ 64 → Bytes payload
       → let result = defined p (send payload lifetime output buffer) in
       result .number ≡ 0 → reading width (take (result .frameLength) (result .buffer)) ≡ message (newMessage p payload lifetime)
-  -- Demand 3: after every list of calls of the module, in place and by value, in which each receive is given a frame that an earlier send of
-  -- the list wrote, or is refused. A beacon is a send. The lists begin with the records that fresh gives.
+  -- Demand 3: after every list of calls in a farm, in which each receive is given a frame that an earlier send of the list wrote, or is refused:
+  -- those of the module, in place and by value, which is of the new make, and those of other panels, of any make. A beacon is a send. The lists
+  -- begin with the records that fresh gives.
   pub begins-in-place : BeginsInPlace
   pub begins-by-value : BeginsByValue
-  pub every-list : (list : List Run) → Follows list → Lawful (map madeOf list) → Demand3 (map madeOf list)
+  pub every-list : (list : List FarmCall) → Follows list → Lawful (farm list) → Demand3 (farm list)
   -- Document 02, W-202: how many entries the test for ready visits. A trace shows the number of the receive of this frame on this record with an
   -- output long enough. Where it shows a message to be ready, a receive that is not refused hands that message, before any other; where it does
   -- not, that receive hands nothing after any list of calls, and the message waits.
@@ -62,15 +65,23 @@ pub record Demands (M : Type 1) : Type 2 where
       → trace p bytes .number ≡ defined p (receive bytes output) .number
   pub trace-handed : (p : Panel) (bytes output : List ℕ) → trace p bytes .ready ≡ true
       → (later : List Message) × (effectOf p (receive bytes output) .handed ≡ messageIn width bytes ∷ later)
-  pub trace-waits : (list : List Run) → Follows list → Lawful (map madeOf list) → (panel : ℕ) (bytes output : List ℕ)
-      → let p = recordAt panel (map madeOf list) in
+  pub trace-waits : (list : List FarmCall) → Follows list → Lawful (farm list) → (panel : ℕ) (bytes output : List ℕ)
+      → let p = recordAt panel (farm list) in
       trace p bytes .number ≡ 0 → trace p bytes .ready ≡ false → effectOf p (receive bytes output) .handed ≡ []
   -- Document 02, W-205: which deadlines are too far ahead to be taken, and that what waits or stands in the log stays, at any panel. After any
   -- list of calls, what is before a message in cause is too far ahead only where that message is.
   pub far-ahead : (p : Panel) → FarAhead p
-  pub causes-near : (list : List Run) → Follows list → Lawful (map madeOf list) → (panel : ℕ) (x y : Name)
-      → let made = map madeOf list in
+  pub causes-near : (list : List FarmCall) → Follows list → Lawful (farm list) → (panel : ℕ) (x y : Name)
+      → let made = farm list in
       Before (sends made) x y → tooFarAhead (recordAt panel made) (y .deadline) ≡ false → tooFarAhead (recordAt panel made) (x .deadline) ≡ false
+  -- Document 02, W-204: whatever frames are given, a panel of either make has no barrier entry above that which the old rule gives on the same
+  -- calls, and sends no longer frame, and nothing else is changed; after lists of demand 3, an entry is that of the old rule, or removed. The
+  -- message's own goes in last.
+  pub own-goes-in : (p : Panel) (m : Message) → OwnGoesIn p m
+  pub no-longer : (list : List FarmCall) → Follows list → (panel : ℕ) (make : Make)
+      → NoLonger (givenTo panel oldMake (asOld (farm list))) (givenTo panel make (farm list))
+  pub stays-or-goes : (list : List FarmCall) → Follows list → Lawful (farm list) → (panel : ℕ)
+      → StaysOrGoes (recordAt panel (asOld (farm list))) (recordAt panel (farm list))
 
 -- The code keeps the demands.
 pub demands : {M : Type 1} → Demands M
@@ -87,11 +98,14 @@ demands =
       sent-reads = sent-reads;
       begins-in-place = λ κs given answer ended learnt within. learnt .1 ∙ freshRecord-within (given .0) within;
       begins-by-value = λ κs given answer ended learnt within. learnt .1 ∙ freshRecord-within (given .0) within;
-      every-list = λ list follows lawful. demand-3 (map madeOf list) lawful (follows-promised list follows);
+      every-list = λ list follows lawful. demand-3 (farm list) lawful (follows-promised list follows);
       visits-counted = visits-counted;
       trace-number = trace-number;
       trace-handed = λ p bytes output ready. trace-handed p bytes ready;
-      trace-waits = λ list follows lawful panel bytes output. trace-waits-reached (map madeOf list) lawful (follows-promised list follows) panel bytes;
+      trace-waits = λ list follows lawful panel bytes output. trace-waits-reached (farm list) lawful (follows-promised list follows) panel bytes;
       far-ahead = far-ahead;
-      causes-near = λ list follows lawful. causes-near (map madeOf list) lawful (follows-promised list follows);
+      causes-near = λ list follows lawful. causes-near (farm list) lawful (follows-promised list follows);
+      own-goes-in = own-goes-in;
+      no-longer = λ list follows. no-longer (farm list) (follows-promised list follows);
+      stays-or-goes = λ list follows lawful. stays-or-goes (farm list) lawful (follows-promised list follows);
     }

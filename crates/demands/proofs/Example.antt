@@ -1,22 +1,25 @@
--- A small list of calls of the module, so that nobody wonders whether any satisfies `Follows` and `Lawful`: panel 3 sets its time to 100, in
--- place; it sends 4F 4B by value, which is case 1; then a beacon, in place; and panel 0 hears the first frame, in place. Assumes nothing.
+-- A small list of calls in a farm, so that nobody wonders whether any satisfies `Follows` and `Lawful`: panel 3 sets its time to 100, in place;
+-- it sends 4F 4B by value, which is case 1; then a beacon, in place; and panel 0 hears the first frame, in place. Panel 1, which is of the old
+-- make, hears it too, and answers; and panel 0 hears the answer. Assumes nothing.
 use Prim.Native.Nat.{ℕ}
 use mathlib.Core.Path.{_≡_, refl}
 use mathlib.Core.Logic.{inl}
-use mathlib.Core.List.{List, [], _∷_, _++_, map, List·Memᴰ·head as first, List·Memᴰ·tail as later}
+use mathlib.Core.List.{List, [], _∷_, _++_, List·Memᴰ·head as first, List·Memᴰ·tail as later}
 use lib.ListN.{drop, replicate}
 use denote.Ref.{RefT}
-use Rattle.rules.specs.Panel.{none64, fresh}
-use Rattle.rules.specs.Cases.{of, output, buffer, outputWith}
+use Rattle.rules.specs.Panel.{Name, oldMake, none64, fresh, ofMake}
+use Rattle.rules.specs.Panel.{Panel as Record}
+use Rattle.rules.specs.Results.{send, receive, defined}
+use Rattle.rules.specs.Cases.{of, output, buffer, outputWith, logged, frameFrom}
 use Rattle.rules.specs.BenchCases.{deadline1, frame1, logged1, deadline2, frame2, logged2}
-use Rattle.rules.specs.Lists.{framesSent, namesIn, logAt, sends, Given, Lawful}
+use Rattle.rules.specs.Lists.{Made, recordAt, framesSent, namesIn, logAt, sends, Given, Lawful}
 use Rattle.rules.proofs.BenchCases.{callsOpened}
 use Rattle.rules.proofs.Shams.{hold, lifted, payload-bytes, empty-bytes}
 use Rattle.slots.specs.Slots.{slotsLength, held, upFrom}
 use Rattle.panel.specs.declared.Panel.{Panel}
-use Rattle.demands.specs.Runs.{Run, madeOf}
+use Rattle.demands.specs.Runs.{Run}
 use Rattle.demands.specs.Functions.{Ran, panel-clock-parts, panel-send, panel-beacon-parts, panel-receive-parts}
-use Rattle.demands.specs.Lists.{GivenTo, Follows}
+use Rattle.demands.specs.Lists.{FarmCall, module-call, other-call, farm, Follows}
 
 -- something lent, with this value
 abbrev lent : {X : Type 0} → X → RefT X
@@ -37,7 +40,7 @@ abbrev only3 : ℕ → List ℕ
 only3 deadline = of ((3, deadline) ∷ [])
 
 opened : Unit {0}
-unfolding callsOpened fresh frame1 frame2 held upFrom framesSent sends namesIn logAt Given GivenTo
+unfolding callsOpened fresh frame1 frame2 held upFrom recordAt framesSent sends namesIn logAt Given
 opened = tt
 
 -- Each call: lifetimes, what is given, the answer, what is lent as the call ends, and that the promise holds of these.
@@ -102,18 +105,59 @@ received = (
   ),
 )
 
-pub example : List Run
-example = received .0 ∷ beaconed .0 ∷ sent .0 ∷ clocked .0 ∷ []
+-- panel 1 receives it too, and sends an empty payload; that panel is of the old make, and does as is defined for it
+old1 : Record
+old1 = ofMake oldMake (fresh 1)
+
+oldHeard : Made
+oldHeard = record { at = 1; make = oldMake; call = receive frame1 output; result = defined old1 (receive frame1 output) }
+
+oldSent : Made
+oldSent =
+    record { at = 1; make = oldMake; call = send [] 0 output buffer; result = defined (ofMake oldMake (oldHeard .result .panel)) (send [] 0 output buffer) }
+
+-- its deadline is high + 1, and it names the note
+answerFrame : List ℕ
+answerFrame = frameFrom (0x01 ∷ 0x00 ∷ 0x00 ∷ 0x1c ∷ 0x85 ∷ replicate 7 0x00) (0x08 ∷ 0x00 ∷ 0x00 ∷ 0x1c ∷ 0x84 ∷ 0x00 ∷ [])
+
+abbrev pub answer : Name
+answer = record { source = 1; deadline = deadline2 }
+
+-- and panel 0 receives the answer: the note leaves its barrier
+answered : (run : Run) × Ran run
+unfolding opened answerFrame
+answered = (
+  _,
+  panel-receive-parts (
+    (some, (some, (some, (some, (some, (some, (some, tt))))))),
+    (0, (0, (lent deadline1, (lent 0, (lent (only3 deadline1), (lent (only3 deadline1), (lent zeros, (lent answerFrame, (lent output, tt))))))))),
+    record { count = 1; length = 0; number = 0 },
+    (0, (0, (lent deadline2, (lent 0, (lent (of ((1, deadline2) ∷ (3, deadline1) ∷ [])), (lent (of ((1, deadline2) ∷ [])), (lent zeros, (lent answerFrame, (lent (outputWith (logged (1 ∷ 0x00 ∷ 0x00 ∷ 0x1c ∷ 0x85 ∷ 0 ∷ []) ∷ [])), tt))))))))),
+    (refl, λ refused. absurd (refused refl)),
+    refl,
+  ),
+)
+
+pub example : List FarmCall
+example =
+    module-call (answered .0) ∷ other-call oldSent ∷ other-call oldHeard ∷ module-call (received .0) ∷ module-call (beaconed .0)
+    ∷ module-call (sent .0) ∷ module-call (clocked .0) ∷ []
+
+exampleOpened : Unit {0}
+unfolding opened clocked sent beaconed received old1 oldHeard oldSent answerFrame answered example
+exampleOpened = tt
 
 pub example-follows : Follows example
-unfolding opened clocked sent beaconed received example
-example-follows = (refl, received .1, (refl, beaconed .1, (refl, sent .1, (refl, clocked .1, tt))))
+unfolding exampleOpened
+example-follows = (refl, answered .1, (refl, (refl, (refl, received .1, (refl, beaconed .1, (refl, sent .1, (refl, clocked .1, tt)))))))
 
-pub example-lawful : Lawful (map madeOf example)
-unfolding opened clocked sent beaconed received example
-example-lawful = (inl (_, later (first refl), refl), (empty-bytes, (payload-bytes, (tt, tt))))
+pub example-lawful : Lawful (farm example)
+unfolding exampleOpened
+example-lawful =
+    (inl (_, first refl, refl), (empty-bytes, (inl (_, later (first refl), refl), (inl (_, later (first refl), refl), (empty-bytes, (payload-bytes, (tt, tt)))))))
 
--- panel 3's log then holds its note and its beacon, and panel 0's the note
-pub example-logs : (logAt 3 (map madeOf example) ≡ hold ∷ lifted ∷ []) × (logAt 0 (map madeOf example) ≡ hold ∷ [])
-unfolding opened clocked sent beaconed received example hold lifted
-example-logs = (refl, refl)
+-- panel 3's log then holds its note and its beacon, and the other two logs the note and the answer
+pub example-logs : (logAt 3 (farm example) ≡ hold ∷ lifted ∷ []) × (logAt 1 (farm example) ≡ hold ∷ answer ∷ [])
+    × (logAt 0 (farm example) ≡ hold ∷ answer ∷ [])
+unfolding exampleOpened hold lifted
+example-logs = (refl, refl, refl)

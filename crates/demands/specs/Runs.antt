@@ -1,6 +1,7 @@
 -- One call of the module, on its records and bytes.
 use Prim.Native.Nat.{ℕ}
 use mathlib.Core.List.{List}
+use Rattle.rules.specs.Panel.{newMake}
 use Rattle.rules.specs.Results.{Call, Result}
 use Rattle.rules.specs.Lists.{Made}
 use Rattle.parts.specs.declared.Answer.{Answer}
@@ -24,6 +25,6 @@ panelOf run = run .given .own
 abbrev pub resultOf : Run → Result
 resultOf run = answered (run .answer) (recordOf (run .left)) (run .output) (run .buffer)
 
--- the call as the words of demand 3 speak of it
+-- the call as the words of demand 3 speak of it: that of a panel of the new make
 abbrev pub madeOf : Run → Made
-madeOf run = record { at = panelOf run; call = run .call; result = resultOf run }
+madeOf run = record { at = panelOf run; make = newMake; call = run .call; result = resultOf run }

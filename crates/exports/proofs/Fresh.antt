@@ -3,7 +3,7 @@ use mathlib.Core.Path.{_≡_}
 use Prim.Native.Nat.{ℕ, _≤_, _<_}
 use borrow.Author.Tests.{lt-ltb, le-ltb}
 use Rattle.frame.specs.Refusal.{firstOf}
-use Rattle.rules.specs.Panel.{newMake, fresh}
+use Rattle.rules.specs.Panel.{fresh}
 use Rattle.rules.specs.Refusals.{freshNumber, freshRecord}
 
 module _ (own : ℕ) where
@@ -15,10 +15,10 @@ module _ (own : ℕ) where
   unfolding freshNumber firstOf
   freshNumber-within within = simp (le-ltb 63 own within)
 
-  pub freshRecord-above : 63 < own → freshRecord own ≡ fresh newMake 0
+  pub freshRecord-above : 63 < own → freshRecord own ≡ fresh 0
   unfolding freshRecord
   freshRecord-above above = simp (lt-ltb 63 own above)
 
-  pub freshRecord-within : own ≤ 63 → freshRecord own ≡ fresh newMake own
+  pub freshRecord-within : own ≤ 63 → freshRecord own ≡ fresh own
   unfolding freshRecord
   freshRecord-within within = simp (le-ltb 63 own within)

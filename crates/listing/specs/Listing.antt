@@ -8,7 +8,7 @@ use Rattle.bundle.specs.declared.Step.{Step}
 use Rattle.bundle.specs.declared.Step.the-variants.{Frame, End, Broken}
 use Rattle.bundle.specs.Bundle.{stepAt, frameAt}
 use Rattle.rules.specs.Sizes.{outputLength}
-use Rattle.rules.specs.Panel.{newMake, Panel, fresh}
+use Rattle.rules.specs.Panel.{Panel, fresh}
 use Rattle.rules.specs.Results.{Result, receive, defined}
 use Rattle.text.specs.Text.{ascii}
 use Rattle.lines.specs.Lines.{frameLine, handLines}
@@ -21,7 +21,7 @@ pub record State : Type 0 where
 
 -- It feeds a fresh panel 0 at time 0.
 abbrev pub start : State
-start = record { panel = fresh newMake 0; place = 0; frames = 0 }
+start = record { panel = fresh 0; place = 0; frames = 0 }
 
 -- what the receive of the next frame gives; its output is lent with zeros
 unfoldable pub received : List ℕ → State → Result

@@ -18,7 +18,7 @@ use Rattle.rules.specs.Results.{refused, done, unless, defined}
 use Rattle.rules.specs.Visiting.{entriesFrom, upToUnmet, traceChecks, trace}
 use Rattle.rules.specs.Cases.{finished, _and_, EachHolds, EachShown}
 use Rattle.rules.specs.FarAheadCases.{farFrame1, farFrame2, caseFarAhead, caseFarAheadStays, caseLastDays}
-use Rattle.rules.specs.BarrierCases.{frameC, frameD, caseYard, caseYardMixed, caseRemoved, caseOwn}
+use Rattle.rules.specs.BarrierCases.{caseYard, caseYardMixed, caseRemoved, caseOwn}
 use Rattle.rules.specs.BenchCases.{frame1, case1, frame2, case2, case3, case4, case5, case6, case7, case8, queue, case9, case10, case11, caseBeacon, caseOrder, caseUnreached, caseTrace, benchCases}
 
 -- whoever unfolds these unfolds all definitions: of frames, of a panel's rules, of the calls, and the cases

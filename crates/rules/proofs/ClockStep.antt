@@ -10,7 +10,7 @@ use Rattle.rules.specs.Settling.{settle}
 use Rattle.rules.specs.Calls.{withTime, alive, dropLapsed, clocking}
 use Rattle.rules.specs.Refusals.{clockChecks}
 use Rattle.rules.specs.Results.{clock, done, defined}
-use Rattle.rules.specs.Lists.{_isIn_, Made, recordAt, framesSent, framesTaken, timeAfter, logAt, sends}
+use Rattle.rules.specs.Lists.{_isIn_, Made, givenTo, framesSent, framesTaken, timeAfter, logAt, sends}
 use Rattle.rules.proofs.Ready.{limit, limit-time, dead, dead-withTime}
 use Rattle.rules.proofs.WaitingList.{isIn-alive, alive-isIn, Distinct-alive, length-alive}
 use Rattle.rules.proofs.Handed.{clocking-readable}
@@ -18,15 +18,18 @@ use Rattle.rules.proofs.Checks.{ClockPassed, clock-passed}
 use Rattle.rules.proofs.Settling.{settle-settles}
 use Rattle.rules.proofs.Sound.{LogSound, WaitingSound}
 use Rattle.rules.proofs.Keeping.{Keeps, sound-withWaiting, settle-keeps}
-use Rattle.rules.proofs.Sites.{Site, siteAt, siteAfter, Placed, SiteSound}
+use Rattle.rules.proofs.Sites.{Site, siteAt, siteFor, siteAfter, Placed, SiteSound, of-make}
 use Rattle.rules.proofs.Steps.{ListSound, made, quiet-step, unless-step, siteDone, siteAfter-done, placed-after}
 
-module _ {makes : ℕ → Make} (earlier : List Made) (L : ListSound makes earlier) (i : ℕ) (time : ℕ) (output : List ℕ) where
+module _ (earlier : List Made) (L : ListSound earlier) (i : ℕ) (make : Make) (time : ℕ) (output : List ℕ) where
   abbrev site : Site
-  site = siteAt makes i earlier
+  site = siteFor make (siteAt i earlier)
 
   abbrev p : Panel
-  p = recordAt makes i earlier
+  p = givenTo i make earlier
+
+  given-sound : SiteSound (sends earlier) i site
+  given-sound = of-make make (L .sites i)
 
   abbrev log : List Name
   log = logAt i earlier
@@ -39,7 +42,7 @@ module _ {makes : ℕ → Make} (earlier : List Made) (L : ListSound makes earli
   module _ (P : ClockPassed p time output) where
     time-sound : LogSound (sends earlier) log (dead (withTime p time))
     time-sound =
-        let G = L .sites i .sound .log-sound in
+        let G = given-sound .sound .log-sound in
         record {
           known = G .known;
           whole = λ x y k b. ⊎-elim (λ a. inl a) (λ d. inr (omega (arith, d, dead-withTime p time (P .later)))) (G .whole x y k b);
@@ -49,7 +52,7 @@ module _ {makes : ℕ → Make} (earlier : List Made) (L : ListSound makes earli
 
     alive-sound : WaitingSound (sends earlier) log (limit (withTime p time)) (alive (withTime p time) (p .waiting))
     alive-sound =
-        let W = L .sites i .sound .waits in
+        let W = given-sound .sound .waits in
         record {
           sent = λ w k. W .sent w (isIn-alive (withTime p time) _ w k .0);
           alive = λ w k. isIn-alive (withTime p time) _ w k .1;
@@ -60,7 +63,7 @@ module _ {makes : ℕ → Make} (earlier : List Made) (L : ListSound makes earli
     keeps : Keeps (sends earlier) log q (settle q)
     keeps =
         settle-keeps (L .sends-sound) q log
-        (sound-withWaiting (withTime p time) (alive (withTime p time) (p .waiting)) time-sound (L .sites i .sound .summary) alive-sound)
+        (sound-withWaiting (withTime p time) (alive (withTime p time) (p .waiting)) time-sound (given-sound .sound .summary) alive-sound)
 
     placed-later : (n : Name) → Placed log (p .waiting) (site .time) n → Placed log (q .waiting) time n
     placed-later n (inl k) = inl k
@@ -68,12 +71,12 @@ module _ {makes : ℕ → Make} (earlier : List Made) (L : ListSound makes earli
         ⊎-elim (λ a. inr (inl (w, a, e)))
         (λ lt. inr (inr (omega (arith, lt, limit-time (withTime p time), ap (λ (a : Name). a .deadline) e))))
         (alive-isIn (withTime p time) (p .waiting) w k)
-    placed-later n (inr (inr lapsed)) = inr (inr (omega (arith, L .sites i .time, P .later)))
+    placed-later n (inr (inr lapsed)) = inr (inr (omega (arith, given-sound .time, P .later)))
 
     clocking-sound : SiteSound (sends earlier) i (siteDone site (clocking p time) (site .sent) (site .taken) time)
     unfolding clocking
     clocking-sound =
-        let G = L .sites i in
+        let G = given-sound in
         let T = settle-settles q in
         record {
           own = T .own ∙ G .own;
@@ -89,12 +92,12 @@ module _ {makes : ℕ → Make} (earlier : List Made) (L : ListSound makes earli
     unfolding framesSent framesTaken timeAfter done
     site-done = siteAfter-done site (clock time output) (clocking p time) output [] [] (clocking-readable p time (P .valid .waiting))
 
-    done-sound : ListSound makes (made i (clock time output) (done (clocking p time) output [] []) ∷ earlier)
+    done-sound : ListSound (made i make (clock time output) (done (clocking p time) output [] []) ∷ earlier)
     unfolding framesSent
-    done-sound = quiet-step earlier L i (clock time output) _ refl (subst⁻¹ (SiteSound (sends earlier) i) site-done clocking-sound)
+    done-sound = quiet-step earlier L i make (clock time output) _ refl (subst⁻¹ (SiteSound (sends earlier) i) site-done clocking-sound)
 
-  pub clock-step : ListSound makes (made i (clock time output) (defined p (clock time output)) ∷ earlier)
+  pub clock-step : ListSound (made i make (clock time output) (defined p (clock time output)) ∷ earlier)
   unfolding defined
   clock-step =
-      unless-step earlier L i (clock time output) (firstOf (clockChecks p time output)) output [] (done (clocking p time) output [] [])
+      unless-step earlier L i make (clock time output) (firstOf (clockChecks p time output)) output [] (done (clocking p time) output [] [])
       (λ e. done-sound (clock-passed p time output e))

@@ -17,7 +17,7 @@ use Rattle.frame.specs.Reading.{checks, refusal, messageIn}
 use Rattle.frame.proofs.FirstOf.{eachNumber, firstOf-each, firstOf-append, firstOf-left, firstOf-right}
 use Rattle.frame.proofs.Passed.{zero-passed}
 use Rattle.rules.specs.Sizes.{width, lastDeadline, outputLength}
-use Rattle.rules.specs.Panel.{Name, Make, Panel, lapsed, ready}
+use Rattle.rules.specs.Panel.{Name, Panel, lapsed, ready}
 use Rattle.rules.specs.Handing.{hand}
 use Rattle.rules.specs.Settling.{Settled, withWaiting, settle}
 use Rattle.rules.specs.Calls.{handAndSettle, newMessage, emptied, sending, receiving, withTime, dropLapsed, clocking}
@@ -165,10 +165,10 @@ far-ahead p =
 
 -- What is before a message in cause is nearer than it: where the one is not too far ahead at a panel, the other is not either. So nothing that
 -- a panel takes waits for a message that it refuses with 32.
-pub causes-near : (makes : ℕ → Make) (list : List Made) → Lawful list → AllPromised makes list → (panel : ℕ) (x y : Name) → Before (sends list) x y
-    → tooFarAhead (recordAt makes panel list) (y .deadline) ≡ false → tooFarAhead (recordAt makes panel list) (x .deadline) ≡ false
+pub causes-near : (list : List Made) → Lawful list → AllPromised list → (panel : ℕ) (x y : Name) → Before (sends list) x y
+    → tooFarAhead (recordAt panel list) (y .deadline) ≡ false → tooFarAhead (recordAt panel list) (x .deadline) ≡ false
 unfolding tooFarAhead
-causes-near makes list lawful promised panel x y before near =
-    let sum = recordAt makes panel list .time + farthestAhead in
+causes-near list lawful promised panel x y before near =
+    let sum = recordAt panel list .time + farthestAhead in
     le-ltb sum (x .deadline)
     (omega (arith, before-rises (list-sound list lawful promised .sends-sound) before, ltb-false sum (y .deadline) near))

@@ -1,7 +1,6 @@
--- What a call hands: at most 33 messages, each of which has a frame. It leaves the make. Assumes nothing.
+-- What a call hands: at most 33 messages, each of which has a frame. Assumes nothing.
 use Prim.Native.Nat.{ℕ, _+_, _≤_}
 use native.Mathlib.Omega.{arith}
-use mathlib.Core.Path.{_≡_}
 use mathlib.Core.Logic.{⊎-elim}
 use mathlib.Core.List.{List, [], _∷_, _++_, List·Memᴰ·head as first, List·Memᴰ·tail as later}
 use lib.ListN.{length, length-append}
@@ -32,17 +31,6 @@ effect-count p (receive bytes output) le =
     (λ _. omega (arith, le, settle-settles q .count, length-append (p .waiting) (m ∷ [])))
 effect-count p (clock time output) le =
     omega (arith, le, settle-settles (dropLapsed (withTime p time)) .count, length-alive (withTime p time) (p .waiting))
-
--- ---- the make stays
-
-pub effect-make : (p : Panel) (call : Call) → effectOf p call .panel .make ≡ p .make
-unfolding sending receiving clocking handAndSettle hand
-effect-make p (send payload lifetime output buffer) = settle-settles (hand (emptied p) (newMessage p payload lifetime)) .make
-effect-make p (receive bytes output) =
-    let m = messageIn width bytes in
-    cond-both (λ (s : Settled). s .panel .make ≡ p .make) (ready p m) (λ _. settle-settles (hand p m) .make)
-    (λ _. settle-settles (withWaiting p (p .waiting ++ (m ∷ []))) .make)
-effect-make p (clock time output) = settle-settles (dropLapsed (withTime p time)) .make
 
 -- ---- which
 

@@ -2,7 +2,7 @@
 use Prim.Native.Nat.{ℕ, _≤_, _<_, max}
 use native.Mathlib.Decide.{ℕ-discrete, decLt}
 use native.Mathlib.Omega.{arith}
-use mathlib.Core.Path.{_≡_, refl, ap, _∙_, subst}
+use mathlib.Core.Path.{_≡_, refl, sym, ap, _∙_, subst}
 use mathlib.Core.Logic.{_⊎_, inl, inr, ⊎-elim, _≢_, by-cases}
 use mathlib.Core.Bool.{true}
 use mathlib.Core.List.{List, [], _∷_, _++_, List·Memᴰ·head as first, Memᴰ·append-left, Memᴰ·append-right, Memᴰ·cast}
@@ -11,11 +11,11 @@ use Rattle.frame.specs.Message.{Message}
 use Rattle.rules.specs.Panel.{Name, nameOf, Make, Panel, none64, ready}
 use Rattle.rules.specs.Handing.{raise, barrierFor, hand}
 use Rattle.rules.specs.Lists.{_isIn_, Sent, Before, direct}
-use Rattle.rules.proofs.Raise.{length-raise, raise-same, raise-other, raise-le, StaysOrGoes, getD-barrierFor, length-barrierFor, getD-none64}
+use Rattle.rules.proofs.Raise.{length-raise, raise-same, raise-other, raise-le, StaysOrRemoved, getD-barrierFor, length-barrierFor, getD-none64}
 use Rattle.rules.proofs.WaitingList.{isIn-end}
 use Rattle.rules.proofs.Ready.{limit, dead, dead-limit, dead-hand, limit-hand, ready-true}
 use Rattle.rules.proofs.Cause.{carried, named, name-path, Known, Upto, Covered, SendsSound, upto-before, upto-upto, upto-rises, source-order, known-deadline, known-source, before-covered}
-use Rattle.rules.proofs.Sound.{LoggedOrDead, LogSound, SummarySound, WasSent, WaitingSound, PanelSound, known-sent, Next, log-end}
+use Rattle.rules.proofs.Sound.{LoggedOrDead, LogSound, SummarySound, barrier-logged, WasSent, WaitingSound, PanelSound, known-sent, Next, log-end}
 
 -- a list of numbers that names messages of the log is raised by a new one
 raise-logged : (log : List Name) (m : Message) (ns : List ℕ) → m .source < length ns → getD ns (m .source) 0 ≤ m .deadline
@@ -37,7 +37,7 @@ Thinned ss m barrier b =
 pub thinned-all : {ss : List Sent} {log : List Name} {marks barrier : List ℕ} {high : ℕ} (m : Message) → SummarySound ss log marks barrier high
     → ((x : Name) → x isIn log → Before ss x (nameOf m)) → Thinned ss m barrier none64
 thinned-all {barrier = barrier} m K all k =
-    by-cases (decLt 0 (getD barrier k 0)) (λ h. inr (getD-none64 k, all _ (K .barrier-logged k h))) (λ h. inl (omega (arith, getD-none64 k)))
+    by-cases (decLt 0 (getD barrier k 0)) (λ h. inr (getD-none64 k, all _ (barrier-logged K k h))) (λ h. inl (omega (arith, getD-none64 k)))
 
 -- a message that an entry of m has reached is before m
 entry-before : {ss : List Sent} → SendsSound ss → (m : Message) → WasSent ss m → {x : Name} → Known ss x → x .deadline ≤ getD (m .entries) (x .source) 0
@@ -55,13 +55,13 @@ thinned-for {ss} S L {barrier = barrier} K m sent make p thin k = go (getD-barri
     b : List ℕ
     b = barrierFor make p m
 
-    go : StaysOrGoes b p m k
+    go : StaysOrRemoved b p m k
         → (getD (p .barrier) k 0 ≡ getD barrier k 0) ⊎ ((getD (p .barrier) k 0 ≡ 0) × Before ss (named k (getD barrier k 0)) (nameOf m))
         → (getD b k 0 ≡ getD barrier k 0) ⊎ ((getD b k 0 ≡ 0) × Before ss (named k (getD barrier k 0)) (nameOf m))
     go (inl e) (inl f) = inl (e ∙ f)
     go (inl e) (inr (f, before)) = inr (e ∙ f, before)
     go (inr (e, le)) (inl f) =
-        by-cases (decLt 0 (getD barrier k 0)) (λ h. inr (e, entry-before S m sent (L .known _ (K .barrier-logged k h)) (omega arith)))
+        by-cases (decLt 0 (getD barrier k 0)) (λ h. inr (e, entry-before S m sent (L .known _ (barrier-logged K k h)) (omega arith)))
         (λ h. inl (omega arith))
     go (inr (e, le)) (inr (f, before)) = inr (e, before)
 
@@ -83,12 +83,11 @@ module _ {ss : List Sent} (S : SendsSound ss) {log : List Name} {dead : ℕ} (L 
       (λ b. absurd (⊎-elim (N .new) (λ d. omega (arith, d, N .alive)) (L .whole _ (nameOf m) i b)))
       (source-order S (N .known) (L .known _ i) refl (omega arith)))
 
-  thinned-logged : (b : List ℕ) → Thinned ss m barrier b → (k : ℕ) → 0 < getD b k 0 → named k (getD b k 0) isIn log
-  thinned-logged b thin k above =
-      ⊎-elim (λ (e : getD b k 0 ≡ getD barrier k 0). Memᴰ·cast (name-path refl e) (K .barrier-logged k (omega arith)))
-      (λ removed. absurd (omega (arith, removed .0))) (thin k)
+  thinned-mark : (b : List ℕ) → Thinned ss m barrier b → (k : ℕ) → 0 < getD b k 0 → getD b k 0 ≡ getD marks k 0
+  thinned-mark b thin k above =
+      ⊎-elim (λ (e : getD b k 0 ≡ getD barrier k 0). e ∙ K .barrier-mark k (omega arith)) (λ removed. absurd (omega (arith, removed .0))) (thin k)
 
-  -- a thinned barrier with m in it names messages of the log and covers it
+  -- a thinned barrier with m in it has marks for entries, and covers the log
   pub summary-end : (b : List ℕ) → length b ≡ 64 → Thinned ss m barrier b → SummarySound ss log′ (raise marks m) (raise b m) (max high (m .deadline))
   summary-end b len thin =
       let above = in-range marks (K .marks-64) in
@@ -100,7 +99,12 @@ module _ {ss : List Sent} (S : SendsSound ss) {log : List Name} {dead : ℕ} (L 
             (λ e. rw e (omega (arith, raise-same marks m above))) (isIn-end log i);
         mark-logged = raise-logged log m marks above (omega (arith, above-mark)) (K .mark-logged);
         below-high = λ x i. ⊎-elim (λ k. omega (arith, K .below-high x k)) (λ e. rw e (omega arith)) (isIn-end log i);
-        barrier-logged = raise-logged log m b lt le (thinned-logged b thin);
+        barrier-mark = λ k entry.
+            by-cases (ℕ-discrete k (m .source))
+            (λ e. rw e (omega (arith, raise-same b m lt, raise-same marks m above, le, above-mark)))
+            (λ other.
+            let b-other = raise-other b m k other in
+            b-other ∙ thinned-mark b thin k (omega (arith, entry, b-other)) ∙ sym (raise-other marks m k other));
         barrier-covers = λ x i. ⊎-elim (λ k. old (K .barrier-covers x k)) (λ e. by-m (inl e)) (isIn-end log i);
       }
     where
@@ -110,7 +114,7 @@ module _ {ss : List Sent} (S : SendsSound ss) {log : List Name} {dead : ℕ} (L 
       le : getD b (m .source) 0 ≤ m .deadline
       le =
           by-cases (decLt 0 (getD b (m .source) 0))
-          (λ h. omega (arith, K .below-mark _ (thinned-logged b thin (m .source) h), above-mark)) (λ h. omega arith)
+          (λ h. omega (arith, thinned-mark b thin (m .source) h, above-mark)) (λ h. omega arith)
 
       by-m : {x : Name} → Upto ss x (nameOf m) → Covered ss log′ (raise b m) x
       by-m u = (nameOf m, Memᴰ·append-right log (first refl), omega (arith, raise-same b m lt, le), u)

@@ -1,18 +1,20 @@
 -- Laws of `raise`, by which marks and barrier entries grow, of a shortened barrier, and of 64 zeros. Assumes nothing.
 use Prim.Native.Nat.{ℕ, zero, suc, _≤_, _<_, max}
+use native.Mathlib.Nat.{max-le}
 use native.Mathlib.Decide.{ℕ-discrete, decLt}
 use native.Mathlib.Omega.{arith}
-use mathlib.Core.Path.{_≡_, refl, sym, ap}
+use mathlib.Core.Path.{_≡_, refl, sym, ap, _∙_}
 use mathlib.Core.Logic.{_⊎_, inl, inr, _≢_, by-cases}
 use mathlib.Core.Bool.{cond}
 use mathlib.Core.List.{List, [], _∷_}
 use lib.ListN.{length, getD, replicate, length-set, length-replicate, List·getD-eq-default}
-use lib.Seq.{getD-set-same, getD-set-other}
+use lib.Seq.{getD-set-same, getD-set-other, ext-getD}
 use lib.Dec.{leb}
-use borrow.Author.Tests.{leb-true}
+use borrow.Author.Tests.{leb-true, lt-leb}
 use Rattle.frame.specs.Message.{Message}
 use Rattle.rules.specs.Panel.{Make, oldMake, newMake, Panel, none64}
-use Rattle.rules.specs.Handing.{raise, shortened, barrierFor}
+use Rattle.rules.specs.Handing.{raise, shortened, barrierFor, hand}
+use Rattle.rules.specs.Barriers.{OwnGoesIn}
 use Rattle.rules.proofs.Booleans.{cond-both}
 
 pub length-raise : (ns : List ℕ) (m : Message) → length (raise ns m) ≡ length ns
@@ -37,6 +39,35 @@ raise-le ns m panel =
         by-cases (decLt (m .source) (length ns)) (λ lt. omega (arith, raise-same ns m lt))
         (λ past. omega (arith, List·getD-eq-default ns 0 {n = m .source} (omega (arith, past))))
 
+-- past the end of the list nothing is raised
+raise-past : (ns : List ℕ) (m : Message) (panel : ℕ) → length ns ≤ panel → getD (raise ns m) panel 0 ≡ 0
+raise-past ns m panel past = List·getD-eq-default (raise ns m) 0 {n = panel} (omega (arith, past, length-raise ns m))
+
+-- of two lists the lower stays the lower
+pub raise-mono : (ks ns : List ℕ) (m : Message) → length ks ≡ length ns → ((panel : ℕ) → getD ks panel 0 ≤ getD ns panel 0)
+    → (panel : ℕ) → getD (raise ks m) panel 0 ≤ getD (raise ns m) panel 0
+raise-mono ks ns m same le panel =
+    by-cases (decLt panel (length ks))
+    (λ lt.
+    by-cases (ℕ-discrete panel (m .source))
+    (λ (e : panel ≡ m .source).
+    let a = raise-same ks m (omega (arith, lt, e)) in
+    let b = raise-same ns m (omega (arith, lt, e, same)) in
+    rw (e, a, b) (max-le (omega (arith, le (m .source))) (omega arith)))
+    (λ other. omega (arith, le panel, raise-other ks m panel other, raise-other ns m panel other)))
+    (λ past. omega (arith, raise-past ks m panel (omega (arith, past))))
+
+-- nothing is raised above the deadline
+pub raise-bound : (ns : List ℕ) (m : Message) (limit : ℕ) → ((panel : ℕ) → getD ns panel 0 ≤ limit)
+    → (panel : ℕ) → getD (raise ns m) panel 0 ≤ max limit (m .deadline)
+raise-bound ns m limit le panel =
+    by-cases (decLt panel (length ns))
+    (λ lt.
+    by-cases (ℕ-discrete panel (m .source))
+    (λ (e : panel ≡ m .source). rw (e, raise-same ns m (omega (arith, lt, e))) (max-le (omega (arith, le (m .source))) (omega arith)))
+    (λ other. omega (arith, le panel, raise-other ns m panel other)))
+    (λ past. omega (arith, raise-past ns m panel (omega (arith, past))))
+
 -- ---- the barrier that a message's own deadline goes into
 
 -- where the message has no entry, the barrier's stays
@@ -58,10 +89,10 @@ length-shortened (b ∷ barrier) [] = refl
 length-shortened (b ∷ barrier) (entry ∷ entries) = ap suc (length-shortened barrier entries)
 
 -- each entry stays, or is removed and is at most the message's
-abbrev pub StaysOrGoes : List ℕ → Panel → Message → ℕ → Type 0
-StaysOrGoes b p m k = (getD b k 0 ≡ getD (p .barrier) k 0) ⊎ ((getD b k 0 ≡ 0) × (getD (p .barrier) k 0 ≤ getD (m .entries) k 0))
+abbrev pub StaysOrRemoved : List ℕ → Panel → Message → ℕ → Type 0
+StaysOrRemoved b p m k = (getD b k 0 ≡ getD (p .barrier) k 0) ⊎ ((getD b k 0 ≡ 0) × (getD (p .barrier) k 0 ≤ getD (m .entries) k 0))
 
-pub getD-barrierFor : (make : Make) (p : Panel) (m : Message) (k : ℕ) → StaysOrGoes (barrierFor make p m) p m k
+pub getD-barrierFor : (make : Make) (p : Panel) (m : Message) (k : ℕ) → StaysOrRemoved (barrierFor make p m) p m k
 unfolding barrierFor
 getD-barrierFor oldMake p m k = inl refl
 getD-barrierFor newMake p m k =
@@ -74,6 +105,43 @@ pub length-barrierFor : (make : Make) (p : Panel) (m : Message) → length (barr
 unfolding barrierFor
 length-barrierFor oldMake p m = refl
 length-barrierFor newMake p m = length-shortened (p .barrier) (m .entries)
+
+-- whatever entries a message carries, its own deadline stands in the barrier once it was handed
+pub own-goes-in : (p : Panel) (m : Message) → OwnGoesIn p m
+unfolding hand
+own-goes-in p m lt =
+    let b = barrierFor (p .make) p m in
+    omega (arith, raise-same b m (omega (arith, lt, length-barrierFor (p .make) p m)))
+
+-- of a message whose entry for its own source is below its deadline, as in every frame, it makes no difference which comes first
+pub either-first : (barrier : List ℕ) (m : Message) → getD (m .entries) (m .source) 0 < m .deadline
+    → shortened (raise barrier m) (m .entries) ≡ raise (shortened barrier (m .entries)) m
+either-first barrier m below =
+    ext-getD 0 (shortened (raise barrier m) es) (raise (shortened barrier es) m)
+    (length-shortened (raise barrier m) es ∙ length-raise barrier m ∙ sym (length-raise (shortened barrier es) m ∙ length-shortened barrier es))
+    (λ k lt.
+    getD-shortened (raise barrier m) es k
+    ∙ by-cases (ℕ-discrete k (m .source))
+    (λ (e : k ≡ m .source). rw e (same (omega (arith, lt, e, length-shortened (raise barrier m) es, length-raise barrier m)))) (apart k))
+  where
+    es : List ℕ
+    es = m .entries
+
+    left : ℕ → ℕ → ℕ
+    left b entry = cond (leb b entry) 0 b
+
+    apart : (k : ℕ) → k ≢ m .source → left (getD (raise barrier m) k 0) (getD es k 0) ≡ getD (raise (shortened barrier es) m) k 0
+    apart k other =
+        ap (λ (b : ℕ). left b (getD es k 0)) (raise-other barrier m k other)
+        ∙ sym (raise-other (shortened barrier es) m k other ∙ getD-shortened barrier es k)
+
+    same : m .source < length barrier → left (getD (raise barrier m) (m .source) 0) (getD es (m .source) 0) ≡ getD (raise (shortened barrier es) m) (m .source) 0
+    same lt =
+        let b = getD barrier (m .source) 0 in
+        let entry = getD es (m .source) 0 in
+        rw (raise-same barrier m lt, raise-same (shortened barrier es) m (omega (arith, lt, length-shortened barrier es)), getD-shortened barrier es (m .source))
+        (rw (lt-leb (max b (m .deadline)) entry (omega arith))
+        (cond-both (λ n. max b (m .deadline) ≡ max n (m .deadline)) (leb b entry) (λ e. omega (arith, leb-true b entry e)) (λ _. refl)))
 
 -- ---- 64 zeros
 

@@ -11,12 +11,12 @@ use Rattle.frame.proofs.Readable.{Readable}
 use Rattle.rules.specs.Sizes.{width}
 use Rattle.rules.specs.Panel.{Name, nameOf, Make, fresh}
 use Rattle.rules.specs.Results.{Call, send, receive, clock, defined}
-use Rattle.rules.specs.Lists.{_isIn_, Made, recordAt, sentAt, takenAt, logAt, timeAt, LapsedAt, sends, Before, direct, Given, Lawful, AllPromised}
+use Rattle.rules.specs.Lists.{_isIn_, Made, recordAt, givenTo, sentAt, takenAt, logAt, timeAt, LapsedAt, sends, Before, direct, Given, Lawful, AllPromised}
 use Rattle.rules.proofs.Ready.{limit, limit-time, dead-limit, ready-false}
 use Rattle.rules.proofs.Raise.{getD-none64, length-none64}
 use Rattle.rules.proofs.Checks.{Valid}
 use Rattle.rules.proofs.Cause.{named, nothing-sent}
-use Rattle.rules.proofs.Sound.{WasSent}
+use Rattle.rules.proofs.Sound.{barrier-logged, WasSent}
 use Rattle.rules.proofs.Steps.{ListSound, made}
 use Rattle.rules.proofs.SendStep.{send-step}
 use Rattle.rules.proofs.ReceiveStep.{receive-step}
@@ -24,7 +24,7 @@ use Rattle.rules.proofs.ClockStep.{clock-step}
 
 -- ---- after every list
 
-empty-sound : {makes : ℕ → Make} → ListSound makes []
+empty-sound : ListSound []
 unfolding recordAt logAt sentAt takenAt timeAt sends fresh
 empty-sound =
     record {
@@ -43,7 +43,7 @@ empty-sound =
                         below-mark = λ x k. elim k [ ];
                         mark-logged = λ k above. absurd (omega (arith, getD-none64 k));
                         below-high = λ x k. elim k [ ];
-                        barrier-logged = λ k above. absurd (omega (arith, getD-none64 k));
+                        barrier-mark = λ k above. absurd (omega (arith, getD-none64 k));
                         barrier-covers = λ x k. elim k [ ];
                       };
                   waits = record { sent = λ w k. elim k [ ]; alive = λ w k. elim k [ ]; unlogged = λ w k. elim k [ ]; distinct = tt };
@@ -55,42 +55,43 @@ empty-sound =
           };
     }
 
-step : {makes : ℕ → Make} (earlier : List Made) → ListSound makes earlier → (i : ℕ) (call : Call) → Given (sends earlier) call (defined (recordAt makes i earlier) call)
-    → ListSound makes (made i call (defined (recordAt makes i earlier) call) ∷ earlier)
+step : (earlier : List Made) → ListSound earlier → (i : ℕ) (make : Make) (call : Call)
+    → let result = defined (givenTo i make earlier) call in
+    Given (sends earlier) call result → ListSound (made i make call result ∷ earlier)
 unfolding Given
-step earlier L i (send payload lifetime output buffer) given = send-step earlier L i payload lifetime output buffer given
-step earlier L i (receive bytes output) given = receive-step earlier L i bytes output given
-step earlier L i (clock time output) given = clock-step earlier L i time output
+step earlier L i make (send payload lifetime output buffer) given = send-step earlier L i make payload lifetime output buffer given
+step earlier L i make (receive bytes output) given = receive-step earlier L i make bytes output given
+step earlier L i make (clock time output) given = clock-step earlier L i make time output
 
-pub list-sound : {makes : ℕ → Make} (list : List Made) → Lawful list → AllPromised makes list → ListSound makes list
+pub list-sound : (list : List Made) → Lawful list → AllPromised list → ListSound list
 list-sound [] lawful promised = empty-sound
-list-sound {makes} (last ∷ earlier) (given, lawful) (promise, promised) =
-    subst⁻¹ (λ result. Given (sends earlier) (last .call) result → ListSound makes (made (last .at) (last .call) result ∷ earlier)) promise
-    (step earlier (list-sound earlier lawful promised) (last .at) (last .call)) given
+list-sound (last ∷ earlier) (given, lawful) (promise, promised) =
+    subst⁻¹ (λ result. Given (sends earlier) (last .call) result → ListSound (made (last .at) (last .make) (last .call) result ∷ earlier)) promise
+    (step earlier (list-sound earlier lawful promised) (last .at) (last .make) (last .call)) given
 
 -- ---- the log of a panel
 
-module _ {makes : ℕ → Make} (list : List Made) (L : ListSound makes list) (i : ℕ) where
+module _ (list : List Made) (L : ListSound list) (i : ℕ) where
   -- what is before a message of the log is in the log or has lapsed
   pub logged-whole : (n x : Name) → n isIn logAt i list → Before (sends list) x n → (x isIn logAt i list) ⊎ LapsedAt i list x
   logged-whole n x k b =
       let G = L .sites i in
-      ⊎-elim (λ a. inl a) (λ d. inr (omega (arith, d, dead-limit (recordAt makes i list), limit-time (recordAt makes i list), G .time))) (G .sound .log-sound .whole n x k b)
+      ⊎-elim (λ a. inl a) (λ d. inr (omega (arith, d, dead-limit (recordAt i list), limit-time (recordAt i list), G .time))) (G .sound .log-sound .whole n x k b)
 
   -- a message that waits is not ready: some message before it is neither in the log nor lapsed
-  waits-for : (w : Message) → w isIn recordAt makes i list .waiting
+  waits-for : (w : Message) → w isIn recordAt i list .waiting
       → ((x : Name) → Before (sends list) x (nameOf w) → (x isIn logAt i list) ⊎ LapsedAt i list x) → ⊥
   waits-for w k all =
-      let (s, above, live) = ready-false (recordAt makes i list) w (L .sites i .settled w k) in
+      let (s, above, live) = ready-false (recordAt i list) w (L .sites i .settled w k) in
       go s above live (L .sites i .sound .waits .sent w k)
     where
-      go : (s : ℕ) → getD (recordAt makes i list .marks) s 0 < getD (w .entries) s 0 → limit (recordAt makes i list) ≤ getD (w .entries) s 0
+      go : (s : ℕ) → getD (recordAt i list .marks) s 0 < getD (w .entries) s 0 → limit (recordAt i list) ≤ getD (w .entries) s 0
           → WasSent (sends list) w → ⊥
       go s above live (t, j, e) =
           let G = L .sites i in
           let b : Before (sends list) (named s (getD (w .entries) s 0)) (nameOf w) =
           direct t j (ap nameOf e) (rw e at (L .sends-sound .entry t j s (rw e (omega arith)))) in
-          ⊎-elim (λ a. omega (arith, G .sound .summary .below-mark _ a, above)) (λ a. omega (arith, a, live, limit-time (recordAt makes i list), G .time)) (all _ b)
+          ⊎-elim (λ a. omega (arith, G .sound .summary .below-mark _ a, above)) (λ a. omega (arith, a, live, limit-time (recordAt i list), G .time)) (all _ b)
 
   -- a message sent or taken there, with all that is before it in the log or lapsed, is in the log or lapsed itself
   pub whole-logged : (n : Name) → (n isIn sentAt i list) ⊎ (n isIn takenAt i list) → ¬ LapsedAt i list n
@@ -102,19 +103,19 @@ module _ {makes : ℕ → Make} (list : List Made) (L : ListSound makes list) (i
 -- ---- its record
 
 -- a list of deadlines of messages in the log is nowhere above high
-logged-high : {makes : ℕ → Make} (list : List Made) → ListSound makes list → (i : ℕ) (ns : List ℕ) → ((k : ℕ) → 0 < getD ns k 0 → named k (getD ns k 0) isIn logAt i list)
-    → (k : ℕ) → getD ns k 0 ≤ recordAt makes i list .high
+logged-high : (list : List Made) → ListSound list → (i : ℕ) (ns : List ℕ) → ((k : ℕ) → 0 < getD ns k 0 → named k (getD ns k 0) isIn logAt i list)
+    → (k : ℕ) → getD ns k 0 ≤ recordAt i list .high
 logged-high list L i ns logged k =
     by-cases (decLt 0 (getD ns k 0)) (λ above. L .sites i .sound .summary .below-high _ (logged k above)) (λ zero. omega arith)
 
-pub reached-valid : {makes : ℕ → Make} (list : List Made) → ListSound makes list → (i : ℕ) → i < 64 → Valid (recordAt makes i list)
-reached-valid {makes} list L i lt =
+pub reached-valid : (list : List Made) → ListSound list → (i : ℕ) → i < 64 → Valid (recordAt i list)
+reached-valid list L i lt =
     let G = L .sites i in
     let K = G .sound .summary in
     record {
       own = omega (arith, G .own);
-      marks = logged-high list L i (recordAt makes i list .marks) (K .mark-logged);
-      barrier = logged-high list L i (recordAt makes i list .barrier) (K .barrier-logged);
+      marks = logged-high list L i (recordAt i list .marks) (K .mark-logged);
+      barrier = logged-high list L i (recordAt i list .barrier) (barrier-logged K);
       count = G .few;
       waiting = λ w k. let (s, j, e) = G .sound .waits .sent w k in subst (Readable width) e (L .sends-sound .readable s j);
     }

@@ -12,7 +12,7 @@ use lib.Dec.{leb}
 use borrow.Author.Tests.{lt-ltb, ltb-true, ltb-false, leb-true, leb-false}
 use Rattle.frame.specs.Message.{Message}
 use Rattle.frame.proofs.Conjunction.{and-both}
-use Rattle.rules.specs.Panel.{Panel, lapsed, met, eachPanel, ready}
+use Rattle.rules.specs.Panel.{Make, Panel, ofMake, lapsed, met, eachPanel, ready}
 use Rattle.rules.specs.Handing.{hand}
 use Rattle.rules.specs.Settling.{withWaiting}
 use Rattle.rules.specs.Calls.{sendDeadline, emptied, withTime}
@@ -70,6 +70,19 @@ module _ (p : Panel) where
   pub dead-hand : (m : Message) → dead p ≤ dead (hand p m)
   unfolding dead hand
   dead-hand m = omega arith
+
+  -- which make it is of makes no difference
+  pub limit-ofMake : (make : Make) → limit (ofMake make p) ≡ limit p
+  unfolding limit
+  limit-ofMake make = refl
+
+  pub dead-ofMake : (make : Make) → dead (ofMake make p) ≡ dead p
+  unfolding dead
+  dead-ofMake make = refl
+
+  pub ready-ofMake : (make : Make) (m : Message) → ready (ofMake make p) m ≡ ready p m
+  unfolding lapsed met ready
+  ready-ofMake make m = refl
 
   pub limit-withWaiting : (ms : List Message) → limit (withWaiting p ms) ≡ limit p
   unfolding limit

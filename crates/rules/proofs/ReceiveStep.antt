@@ -17,7 +17,7 @@ use Rattle.rules.specs.Settling.{Settled, withWaiting, settle}
 use Rattle.rules.specs.Calls.{handAndSettle, receiving}
 use Rattle.rules.specs.Refusals.{receiveChecks}
 use Rattle.rules.specs.Results.{receive, refused, done, unless, defined}
-use Rattle.rules.specs.Lists.{_isIn_, Made, recordAt, framesSent, framesTaken, timeAfter, logAt, sends, Given}
+use Rattle.rules.specs.Lists.{_isIn_, Made, givenTo, framesSent, framesTaken, timeAfter, logAt, sends, Given}
 use Rattle.rules.proofs.Booleans.{cond-both}
 use Rattle.rules.proofs.WaitingList.{isIn-end, Distinct-end}
 use Rattle.rules.proofs.Handed.{receiving-readable}
@@ -26,15 +26,18 @@ use Rattle.rules.proofs.Settling.{settle-settles}
 use Rattle.rules.proofs.Sound.{WasSent, PanelSound}
 use Rattle.rules.proofs.Handing.{hand-ready}
 use Rattle.rules.proofs.Keeping.{logWith, Keeps, sound-withWaiting, keeps-hand, settle-keeps}
-use Rattle.rules.proofs.Sites.{Site, siteAt, siteAfter, Placed, SiteSound}
+use Rattle.rules.proofs.Sites.{Site, siteAt, siteFor, siteAfter, Placed, SiteSound, of-make}
 use Rattle.rules.proofs.Steps.{ListSound, made, quiet-step, unless-step, siteDone, siteAfter-done, placed-after}
 
-module _ {makes : ℕ → Make} (earlier : List Made) (L : ListSound makes earlier) (i : ℕ) (bytes output : List ℕ) where
+module _ (earlier : List Made) (L : ListSound earlier) (i : ℕ) (make : Make) (bytes output : List ℕ) where
   abbrev site : Site
-  site = siteAt makes i earlier
+  site = siteFor make (siteAt i earlier)
 
   abbrev p : Panel
-  p = recordAt makes i earlier
+  p = givenTo i make earlier
+
+  given-sound : SiteSound (sends earlier) i site
+  given-sound = of-make make (L .sites i)
 
   abbrev m : Message
   m = messageIn width bytes
@@ -48,7 +51,7 @@ module _ {makes : ℕ → Make} (earlier : List Made) (L : ListSound makes earli
     readable = let (s, k, e) = was-sent in subst (Readable width) e (L .sends-sound .readable s k)
 
     unlogged : ¬ (nameOf m isIn log)
-    unlogged k = omega (arith, L .sites i .sound .summary .below-mark _ k, P .above-mark)
+    unlogged k = omega (arith, given-sound .sound .summary .below-mark _ k, P .above-mark)
 
     -- ---- it is handed
 
@@ -57,13 +60,13 @@ module _ {makes : ℕ → Make} (earlier : List Made) (L : ListSound makes earli
     handed-keeps r =
         keeps-hand p m (λ w k. inr k)
         (settle-keeps (L .sends-sound) (hand p m) _
-        (hand-ready (L .sends-sound) (L .sites i .sound) m was-sent (P .alive) unlogged r (P .not-waiting)))
+        (hand-ready (L .sends-sound) (given-sound .sound) m was-sent (P .alive) unlogged r (P .not-waiting)))
 
     handed-sound : ready p m ≡ true
         → SiteSound (sends earlier) i (siteDone site (handAndSettle p m) (site .sent) (nameOf m ∷ site .taken) (site .time))
     unfolding handAndSettle hand
     handed-sound r =
-        let G = L .sites i in
+        let G = given-sound in
         let T = settle-settles (hand p m) in
         record {
           own = T .own ∙ G .own;
@@ -77,9 +80,9 @@ module _ {makes : ℕ → Make} (earlier : List Made) (L : ListSound makes earli
       where
         placed : (n : Name) → (n isIn site .sent) ⊎ (n isIn nameOf m ∷ site .taken)
             → Placed (logWith log (handAndSettle p m .handed)) (handAndSettle p m .panel .waiting) (site .time) n
-        placed n (inl k) = placed-after (handed-keeps r) n (L .sites i .placed n (inl k))
+        placed n (inl k) = placed-after (handed-keeps r) n (given-sound .placed n (inl k))
         placed n (inr (first e)) = inl (Memᴰ·append-right log (first e))
-        placed n (inr (later k)) = placed-after (handed-keeps r) n (L .sites i .placed n (inr k))
+        placed n (inr (later k)) = placed-after (handed-keeps r) n (given-sound .placed n (inr k))
 
     -- ---- it goes to the end of the list
 
@@ -88,7 +91,7 @@ module _ {makes : ℕ → Make} (earlier : List Made) (L : ListSound makes earli
 
     waiting-sound : PanelSound (sends earlier) log q
     waiting-sound =
-        let G = L .sites i .sound in
+        let G = given-sound .sound in
         let W = G .waits in
         sound-withWaiting p (p .waiting ++ (m ∷ [])) (G .log-sound) (G .summary)
         (record {
@@ -103,7 +106,7 @@ module _ {makes : ℕ → Make} (earlier : List Made) (L : ListSound makes earli
 
     waits-sound : length (p .waiting) < 32 → SiteSound (sends earlier) i (siteDone site (settle q) (site .sent) (nameOf m ∷ site .taken) (site .time))
     waits-sound room =
-        let G = L .sites i in
+        let G = given-sound in
         let T = settle-settles q in
         record {
           own = T .own ∙ G .own;
@@ -121,9 +124,9 @@ module _ {makes : ℕ → Make} (earlier : List Made) (L : ListSound makes earli
         widen (inr (inr k)) = inr (inr k)
 
         placed : (n : Name) → (n isIn site .sent) ⊎ (n isIn nameOf m ∷ site .taken) → Placed log (p .waiting ++ (m ∷ [])) (site .time) n
-        placed n (inl k) = widen (L .sites i .placed n (inl k))
+        placed n (inl k) = widen (given-sound .placed n (inl k))
         placed n (inr (first e)) = inr (inl (m, Memᴰ·append-right (p .waiting) (first refl), sym e))
-        placed n (inr (later k)) = widen (L .sites i .placed n (inr k))
+        placed n (inr (later k)) = widen (given-sound .placed n (inr k))
 
     -- ---- either way
 
@@ -138,9 +141,9 @@ module _ {makes : ℕ → Make} (earlier : List Made) (L : ListSound makes earli
     unfolding framesSent framesTaken timeAfter done
     site-done = siteAfter-done site (receive bytes output) (receiving p m) output [] [] (receiving-readable p m (P .valid .waiting) readable)
 
-    done-sound : ListSound makes (made i (receive bytes output) (done (receiving p m) output [] []) ∷ earlier)
+    done-sound : ListSound (made i make (receive bytes output) (done (receiving p m) output [] []) ∷ earlier)
     unfolding framesSent
-    done-sound = quiet-step earlier L i (receive bytes output) _ refl (subst⁻¹ (SiteSound (sends earlier) i) site-done receiving-sound)
+    done-sound = quiet-step earlier L i make (receive bytes output) _ refl (subst⁻¹ (SiteSound (sends earlier) i) site-done receiving-sound)
 
   -- where the call is not refused, the frame was sent
   given-sent : (number : ℕ) → number ≡ 0
@@ -150,8 +153,8 @@ module _ {makes : ℕ → Make} (earlier : List Made) (L : ListSound makes earli
   given-sent number e (inr refuses) = absurd ((rw e at refuses) refl)
 
   pub receive-step : Given (sends earlier) (receive bytes output) (defined p (receive bytes output))
-      → ListSound makes (made i (receive bytes output) (defined p (receive bytes output)) ∷ earlier)
+      → ListSound (made i make (receive bytes output) (defined p (receive bytes output)) ∷ earlier)
   unfolding defined
   receive-step given =
-      unless-step earlier L i (receive bytes output) (firstOf (receiveChecks p bytes output)) output [] (done (receiving p m) output [] [])
+      unless-step earlier L i make (receive bytes output) (firstOf (receiveChecks p bytes output)) output [] (done (receiving p m) output [] [])
       (λ e. done-sound (receive-passed p bytes output e) (given-sent (firstOf (receiveChecks p bytes output)) e given))

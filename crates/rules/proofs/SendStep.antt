@@ -20,24 +20,27 @@ use Rattle.rules.specs.Handing.{hand}
 use Rattle.rules.specs.Calls.{handAndSettle, sendDeadline, newMessage, emptied, sending}
 use Rattle.rules.specs.Refusals.{sendChecks}
 use Rattle.rules.specs.Results.{send, Result, done, defined}
-use Rattle.rules.specs.Lists.{_isIn_, Made, recordAt, framesSent, framesTaken, timeAfter, logAt, Sent, sends}
+use Rattle.rules.specs.Lists.{_isIn_, Made, givenTo, framesSent, framesTaken, timeAfter, logAt, Sent, sends}
 use Rattle.rules.proofs.Ready.{limit, limit-sendDeadline}
 use Rattle.rules.proofs.Checks.{SendPassed, send-passed, new-readable}
 use Rattle.rules.proofs.Handed.{sending-readable}
 use Rattle.rules.proofs.Settling.{settle-settles}
 use Rattle.rules.proofs.Cause.{carried, name, SendsSound}
-use Rattle.rules.proofs.Sound.{PanelSound}
+use Rattle.rules.proofs.Sound.{barrier-logged, PanelSound}
 use Rattle.rules.proofs.Sending.{New, sends-more, panel-more, own-sound}
 use Rattle.rules.proofs.Keeping.{logWith, Keeps, keeps-hand, settle-keeps}
-use Rattle.rules.proofs.Sites.{Site, siteAt, siteAfter, Placed, SiteSound}
+use Rattle.rules.proofs.Sites.{Site, siteAt, siteFor, siteAfter, Placed, SiteSound, of-make}
 use Rattle.rules.proofs.Steps.{ListSound, list-with, made, unless-step, siteDone, siteAfter-done, placed-after}
 
-module _ {makes : ℕ → Make} (earlier : List Made) (L : ListSound makes earlier) (i : ℕ) (payload : List ℕ) (lifetime : ℕ) (output buffer : List ℕ) where
+module _ (earlier : List Made) (L : ListSound earlier) (i : ℕ) (make : Make) (payload : List ℕ) (lifetime : ℕ) (output buffer : List ℕ) where
   abbrev site : Site
-  site = siteAt makes i earlier
+  site = siteFor make (siteAt i earlier)
 
   abbrev p : Panel
-  p = recordAt makes i earlier
+  p = givenTo i make earlier
+
+  given-sound : SiteSound (sends earlier) i site
+  given-sound = of-make make (L .sites i)
 
   abbrev m : Message
   m = newMessage p payload lifetime
@@ -58,20 +61,20 @@ module _ {makes : ℕ → Make} (earlier : List Made) (L : ListSound makes earli
   m-new : Readable width m → New (sends earlier) m (logAt i earlier)
   unfolding newMessage sendDeadline
   m-new r =
-      let G = L .sites i in
+      let G = given-sound in
       let K = G .sound .summary in
       record {
         readable = r;
         rising = λ x k. omega (arith, K .below-high x k);
         own = λ s k q. G .mine s k (q ∙ G .own);
         known = G .sound .log-sound .known;
-        entry = K .barrier-logged;
+        entry = barrier-logged K;
         cover = K .barrier-covers;
       }
 
   own-source : m .source ≡ i
   unfolding newMessage
-  own-source = L .sites i .own
+  own-source = given-sound .own
 
   alive : limit p ≤ m .deadline
   unfolding newMessage
@@ -80,7 +83,7 @@ module _ {makes : ℕ → Make} (earlier : List Made) (L : ListSound makes earli
   -- a send that passes the checks
   module _ (P : SendPassed p payload lifetime output buffer) (bytes : Bytes payload) where
     readable : Readable width m
-    readable = new-readable p payload lifetime output buffer P (L .sites i .sound .summary .barrier-64) bytes
+    readable = new-readable p payload lifetime output buffer P (given-sound .sound .summary .barrier-64) bytes
 
     carried-new : New (sends earlier) (carried new) (new .past)
     unfolding new
@@ -94,7 +97,7 @@ module _ {makes : ℕ → Make} (earlier : List Made) (L : ListSound makes earli
     unfolding new
     handed-sound =
         subst (λ x. PanelSound (new ∷ sends earlier) (logAt i earlier ++ (nameOf x ∷ [])) (hand (emptied p) x)) (carried-is readable)
-        (own-sound (L .sends-sound) new carried-new p (L .sites i .sound) (subst⁻¹ (λ (x : Message). limit p ≤ x .deadline) (carried-is readable) alive))
+        (own-sound (L .sends-sound) new carried-new p (given-sound .sound) (subst⁻¹ (λ (x : Message). limit p ≤ x .deadline) (carried-is readable) alive))
 
     -- and the panel settles
     keeps : Keeps (new ∷ sends earlier) (logAt i earlier) p (sending p payload lifetime)
@@ -104,7 +107,7 @@ module _ {makes : ℕ → Make} (earlier : List Made) (L : ListSound makes earli
     site-sound : SiteSound (new ∷ sends earlier) i (siteDone site (sending p payload lifetime) (name new ∷ site .sent) (site .taken) (site .time))
     unfolding sending handAndSettle hand
     site-sound =
-        let G = L .sites i in
+        let G = given-sound in
         let T = settle-settles (hand (emptied p) m) in
         record {
           own = T .own ∙ G .own;
@@ -122,15 +125,15 @@ module _ {makes : ℕ → Make} (earlier : List Made) (L : ListSound makes earli
         placed : (n : Name) → (n isIn name new ∷ site .sent) ⊎ (n isIn site .taken)
             → Placed (logWith (logAt i earlier) (sending p payload lifetime .handed)) (sending p payload lifetime .panel .waiting) (site .time) n
         placed n (inl (first e)) = inl (Memᴰ·cast e in-log)
-        placed n (inl (later k)) = placed-after keeps n (L .sites i .placed n (inl k))
-        placed n (inr k) = placed-after keeps n (L .sites i .placed n (inr k))
+        placed n (inl (later k)) = placed-after keeps n (given-sound .placed n (inl k))
+        placed n (inr k) = placed-after keeps n (given-sound .placed n (inr k))
 
         mine : (s : Sent) → s isIn new ∷ sends earlier → name s .source ≡ i → name s isIn logWith (logAt i earlier) (sending p payload lifetime .handed)
         mine s (first e) q = Memᴰ·cast (ap name e) in-log
-        mine s (later k) q = Memᴰ·append-left _ (L .sites i .mine s k q)
+        mine s (later k) q = Memᴰ·append-left _ (given-sound .mine s k q)
 
     -- at the other panels nothing changes
-    others : (j : ℕ) → j ≢ i → SiteSound (new ∷ sends earlier) j (siteAt makes j earlier)
+    others : (j : ℕ) → j ≢ i → SiteSound (new ∷ sends earlier) j (siteAt j earlier)
     others j other =
         let G = L .sites j in
         record {
@@ -148,7 +151,7 @@ module _ {makes : ℕ → Make} (earlier : List Made) (L : ListSound makes earli
             absurd (other (sym q ∙ ap (λ (a : Sent). name a .source) e ∙ ap (λ (x : Message). x .source) (carried-is readable) ∙ own-source))
         mine s (later k) q = L .sites j .mine s k q
 
-    sends-done : sends (made i (send payload lifetime output buffer) result ∷ earlier) ≡ new ∷ sends earlier
+    sends-done : sends (made i make (send payload lifetime output buffer) result ∷ earlier) ≡ new ∷ sends earlier
     unfolding sends framesSent done new
     sends-done = refl
 
@@ -158,12 +161,12 @@ module _ {makes : ℕ → Make} (earlier : List Made) (L : ListSound makes earli
     site-done = siteAfter-done site (send payload lifetime output buffer) (sending p payload lifetime) output (frame width m) buffer
         (sending-readable p payload lifetime (P .valid .waiting) readable)
 
-    done-sound : ListSound makes (made i (send payload lifetime output buffer) result ∷ earlier)
+    done-sound : ListSound (made i make (send payload lifetime output buffer) result ∷ earlier)
     done-sound =
         list-with _ earlier (new ∷ sends earlier) sends-done sends-sound (subst⁻¹ (SiteSound (new ∷ sends earlier) i) site-done site-sound) others
 
-  pub send-step : Bytes payload → ListSound makes (made i (send payload lifetime output buffer) (defined p (send payload lifetime output buffer)) ∷ earlier)
+  pub send-step : Bytes payload → ListSound (made i make (send payload lifetime output buffer) (defined p (send payload lifetime output buffer)) ∷ earlier)
   unfolding defined
   send-step bytes =
-      unless-step earlier L i (send payload lifetime output buffer) (firstOf (sendChecks p payload lifetime output buffer)) output buffer result
+      unless-step earlier L i make (send payload lifetime output buffer) (firstOf (sendChecks p payload lifetime output buffer)) output buffer result
       (λ e. done-sound (send-passed p payload lifetime output buffer e) bytes)

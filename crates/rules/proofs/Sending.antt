@@ -8,7 +8,7 @@ use lib.ListN.{getD}
 use Rattle.frame.specs.Message.{Message}
 use Rattle.frame.proofs.Readable.{Readable}
 use Rattle.rules.specs.Sizes.{width}
-use Rattle.rules.specs.Panel.{Name, Panel, none64}
+use Rattle.rules.specs.Panel.{Name, Panel}
 use Rattle.rules.specs.Handing.{hand}
 use Rattle.rules.specs.Calls.{emptied}
 use Rattle.rules.specs.Lists.{_isIn_, Sent, Before, direct}
@@ -94,7 +94,7 @@ module _ {ss : List Sent} (S : SendsSound ss) (new : Sent) (N : New ss (carried 
         below-mark = K .below-mark;
         mark-logged = K .mark-logged;
         below-high = K .below-high;
-        barrier-logged = K .barrier-logged;
+        barrier-mark = K .barrier-mark;
         barrier-covers = λ x i. covered-more barrier (K .barrier-covers x i);
       }
 

@@ -81,7 +81,6 @@ settle-step p = settleIn-settleBy (length (p .waiting)) p ∙ go (length (p .wai
 pub record Settles (p : Panel) (s : Settled) : Type 0 where
   pub own : s .panel .own ≡ p .own
   pub time : s .panel .time ≡ p .time
-  pub make : s .panel .make ≡ p .make
   pub count : length (s .panel .waiting) + length (s .handed) ≡ length (p .waiting)
   pub left : (w : Message) → w isIn s .panel .waiting → w isIn p .waiting
   pub handed : (w : Message) → w isIn s .handed → w isIn p .waiting
@@ -95,7 +94,7 @@ unfolding hand
 settle-settles = settle-induction Settles stop step
   where
     stop : (p : Panel) → NoneReady p → Settles p (record { panel = p; handed = [] })
-    stop p unready = record { own = refl; time = refl; make = refl; count = omega arith; left = λ w i. i; handed = λ w i. elim i [ ]; kept = λ w i. inl i; marks = λ source. omega arith; settled = unready }
+    stop p unready = record { own = refl; time = refl; count = omega arith; left = λ w i. i; handed = λ w i. elim i [ ]; kept = λ w i. inl i; marks = λ source. omega arith; settled = unready }
 
     step : (p : Panel) (place : ℕ) (rest : Settled) → place < length (p .waiting) → ready p (waitingAt p place) ≡ true
         → Settles (handAt p place) rest → Settles p (record { panel = rest .panel; handed = waitingAt p place ∷ rest .handed })
@@ -103,7 +102,6 @@ settle-settles = settle-induction Settles stop step
         record {
           own = S .own;
           time = S .time;
-          make = S .make;
           count = omega (arith, S .count, length-handAt p place lt);
           left = λ w i. isIn-without place (p .waiting) w (S .left w i);
           handed = λ w i. one w i (S .handed w);

@@ -9,7 +9,7 @@ use Rattle.frame.specs.Reading.{messageIn}
 use Rattle.frame.specs.Readable.{eachBelow}
 use Rattle.frame.proofs.EachNumber.{eachBelow-lt}
 use Rattle.rules.specs.Sizes.{width}
-use Rattle.rules.specs.Panel.{Name, newMake, Panel, fresh}
+use Rattle.rules.specs.Panel.{Name, Make, newMake, Panel, fresh}
 use Rattle.rules.specs.Settling.{withWaiting}
 use Rattle.rules.specs.Calls.{handAndSettle}
 use Rattle.rules.specs.Results.{Call, send, receive, clock, Result, done, defined}
@@ -49,20 +49,20 @@ hold = record { source = 3; deadline = deadline1 }
 unfoldable pub lifted : Name
 lifted = record { source = 3; deadline = deadline2 }
 
-holdSent : List (ℕ × Call)
-holdSent = (3, send (0x4f ∷ 0x4b ∷ []) deadline1 output buffer) ∷ []
+holdSent : List (ℕ × Make × Call)
+holdSent = (3, newMake, send (0x4f ∷ 0x4b ∷ []) deadline1 output buffer) ∷ []
 
 -- the first is heard
 pub once : (Panel → Call → Result) → List Made
-once gives = ran (λ _. newMake) gives ((0, receive frame1 output) ∷ holdSent)
+once gives = ran gives ((0, newMake, receive frame1 output) ∷ holdSent)
 
 -- and heard again
 pub twice : (Panel → Call → Result) → List Made
-twice gives = ran (λ _. newMake) gives ((0, receive frame1 output) ∷ (0, receive frame1 output) ∷ holdSent)
+twice gives = ran gives ((0, newMake, receive frame1 output) ∷ (0, newMake, receive frame1 output) ∷ holdSent)
 
 -- the second is heard, and then the first
 pub crossed : (Panel → Call → Result) → List Made
-crossed gives = ran (λ _. newMake) gives ((0, receive frame1 output) ∷ (0, receive frame2 output) ∷ (3, send [] 0 output buffer) ∷ holdSent)
+crossed gives = ran gives ((0, newMake, receive frame1 output) ∷ (0, newMake, receive frame2 output) ∷ (3, newMake, send [] 0 output buffer) ∷ holdSent)
 
 -- whoever unfolds these unfolds all definitions of lists, and these lists
 listsOpened : Unit {0}

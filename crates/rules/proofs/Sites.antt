@@ -8,9 +8,10 @@ use lib.ListN.{length}
 use lib.Dec.{eqb·suc-zero}
 use borrow.Author.Tests.{eq-eqb, ne-eqb}
 use Rattle.frame.specs.Message.{Message}
-use Rattle.rules.specs.Panel.{Name, nameOf, Make, Panel}
+use Rattle.rules.specs.Panel.{Name, nameOf, Make, Panel, ofMake}
 use Rattle.rules.specs.Results.{Call, send, receive, clock, Result, refused}
 use Rattle.rules.specs.Lists.{_isIn_, Made, on, recordAt, framesSent, framesTaken, nameIn, sentAt, takenAt, namesIn, logAt, timeAfter, timeAt, Sent}
+use Rattle.rules.proofs.Ready.{limit-ofMake, dead-ofMake, ready-ofMake}
 use Rattle.rules.proofs.Settling.{NoneReady}
 use Rattle.rules.proofs.Cause.{name}
 use Rattle.rules.proofs.Sound.{PanelSound}
@@ -23,9 +24,13 @@ pub record Site : Type 0 where
   pub taken : List Name
   pub time : ℕ
 
-abbrev pub siteAt : (ℕ → Make) → ℕ → List Made → Site
-siteAt makes i list =
-    record { panel = recordAt makes i list; log = logAt i list; sent = sentAt i list; taken = takenAt i list; time = timeAt i list }
+abbrev pub siteAt : ℕ → List Made → Site
+siteAt i list =
+    record { panel = recordAt i list; log = logAt i list; sent = sentAt i list; taken = takenAt i list; time = timeAt i list }
+
+-- as a panel of that make works on it
+abbrev pub siteFor : Make → Site → Site
+siteFor make s = record { panel = ofMake make (s .panel); log = s .log; sent = s .sent; taken = s .taken; time = s .time }
 
 -- ---- a call changes the site of its panel, and no other
 
@@ -50,23 +55,23 @@ siteIf here s call result =
       time = cond here (timeAfter (s .time) call result) (s .time);
     }
 
-siteAt-siteIf : (makes : ℕ → Make) (i : ℕ) (made : Made) (earlier : List Made)
-    → siteAt makes i (made ∷ earlier) ≡ siteIf (on i made) (siteAt makes i earlier) (made .call) (made .result)
+siteAt-siteIf : (i : ℕ) (made : Made) (earlier : List Made)
+    → siteAt i (made ∷ earlier) ≡ siteIf (on i made) (siteAt i earlier) (made .call) (made .result)
 unfolding siteIf recordAt logAt sentAt takenAt timeAt
-siteAt-siteIf makes i made earlier = refl
+siteAt-siteIf i made earlier = refl
 
-pub siteAt-here : (makes : ℕ → Make) (made : Made) (earlier : List Made)
-    → siteAt makes (made .at) (made ∷ earlier) ≡ siteAfter (siteAt makes (made .at) earlier) (made .call) (made .result)
+pub siteAt-here : (made : Made) (earlier : List Made)
+    → siteAt (made .at) (made ∷ earlier) ≡ siteAfter (siteAt (made .at) earlier) (made .call) (made .result)
 unfolding siteIf
-siteAt-here makes made earlier =
-    siteAt-siteIf makes (made .at) made earlier
-    ∙ ap (λ b. siteIf b (siteAt makes (made .at) earlier) (made .call) (made .result)) (eq-eqb (made .at) (made .at) refl)
+siteAt-here made earlier =
+    siteAt-siteIf (made .at) made earlier
+    ∙ ap (λ b. siteIf b (siteAt (made .at) earlier) (made .call) (made .result)) (eq-eqb (made .at) (made .at) refl)
 
-pub siteAt-other : (makes : ℕ → Make) (i : ℕ) (made : Made) (earlier : List Made) → i ≢ made .at → siteAt makes i (made ∷ earlier) ≡ siteAt makes i earlier
+pub siteAt-other : (i : ℕ) (made : Made) (earlier : List Made) → i ≢ made .at → siteAt i (made ∷ earlier) ≡ siteAt i earlier
 unfolding siteIf
-siteAt-other makes i made earlier other =
-    siteAt-siteIf makes i made earlier ∙ ap (λ b. siteIf b (siteAt makes i earlier) (made .call) (made .result)) (ne-eqb i (made .at) other)
-    ∙ (λ j. record { panel = recordAt makes i earlier; log = append-nil (logAt i earlier) j; sent = sentAt i earlier; taken = takenAt i earlier; time = timeAt i earlier })
+siteAt-other i made earlier other =
+    siteAt-siteIf i made earlier ∙ ap (λ b. siteIf b (siteAt i earlier) (made .call) (made .result)) (ne-eqb i (made .at) other)
+    ∙ (λ j. record { panel = recordAt i earlier; log = append-nil (logAt i earlier) j; sent = sentAt i earlier; taken = takenAt i earlier; time = timeAt i earlier })
 
 -- ---- a refused call changes nothing
 
@@ -93,3 +98,21 @@ pub record SiteSound (ss : List Sent) (i : ℕ) (s : Site) : Type 0 where
   pub settled : NoneReady (s .panel)
   pub placed : (n : Name) → (n isIn s .sent) ⊎ (n isIn s .taken) → Placed (s .log) (s .panel .waiting) (s .time) n
   pub mine : (t : Sent) → t isIn ss → name t .source ≡ i → name t isIn s .log
+
+-- the make makes no difference to it
+pub of-make : {ss : List Sent} {i : ℕ} {s : Site} (make : Make) → SiteSound ss i s → SiteSound ss i (siteFor make s)
+of-make {s = s} make G =
+    record {
+      own = G .own;
+      time = G .time;
+      sound =
+          record {
+            log-sound = rw (dead-ofMake (s .panel) make) (G .sound .log-sound);
+            summary = G .sound .summary;
+            waits = rw (limit-ofMake (s .panel) make) (G .sound .waits);
+          };
+      few = G .few;
+      settled = λ w k. ready-ofMake (s .panel) make w ∙ G .settled w k;
+      placed = G .placed;
+      mine = G .mine;
+    }

@@ -2,7 +2,7 @@
 -- in order. Assumes nothing.
 use Prim.Native.Nat.{ℕ, _≤_, _<_}
 use native.Mathlib.Omega.{arith}
-use mathlib.Core.Path.{_≡_, sym, ap}
+use mathlib.Core.Path.{_≡_, sym, ap, subst⁻¹}
 use mathlib.Core.Logic.{_⊎_, inl, inr, ⊎-elim}
 use mathlib.Core.List.{List, [], _∷_, _++_, List·Memᴰ·head as first, List·Memᴰ·tail as later, List·Memᴰ·not-nil, Memᴰ·append-left, Memᴰ·cast}
 use lib.ListN.{length, getD}
@@ -25,15 +25,23 @@ pub record LogSound (ss : List Sent) (log : List Name) (dead : ℕ) : Type 0 whe
   pub once : (x : Name) → ¬ Ahead x x log
   pub order : (x y : Name) → Ahead x y log → ¬ Before ss y x
 
--- what marks, barrier and high say of the log: the marks and high are its largest deadlines, the barrier names messages of it and covers it
+-- what marks, barrier and high say of the log: the marks and high are its largest deadlines, an entry of the barrier is its panel's mark, and
+-- the barrier covers the log
 pub record SummarySound (ss : List Sent) (log : List Name) (marks barrier : List ℕ) (high : ℕ) : Type 0 where
   pub marks-64 : length marks ≡ 64
   pub barrier-64 : length barrier ≡ 64
   pub below-mark : (x : Name) → x isIn log → x .deadline ≤ getD marks (x .source) 0
   pub mark-logged : (k : ℕ) → 0 < getD marks k 0 → named k (getD marks k 0) isIn log
   pub below-high : (x : Name) → x isIn log → x .deadline ≤ high
-  pub barrier-logged : (k : ℕ) → 0 < getD barrier k 0 → named k (getD barrier k 0) isIn log
+  pub barrier-mark : (k : ℕ) → 0 < getD barrier k 0 → getD barrier k 0 ≡ getD marks k 0
   pub barrier-covers : (x : Name) → x isIn log → Covered ss log barrier x
+
+-- so the barrier names messages of the log
+pub barrier-logged : {ss : List Sent} {log : List Name} {marks barrier : List ℕ} {high : ℕ} → SummarySound ss log marks barrier high
+    → (k : ℕ) → 0 < getD barrier k 0 → named k (getD barrier k 0) isIn log
+barrier-logged {log = log} {barrier = barrier} K k above =
+    let mark = K .barrier-mark k above in
+    subst⁻¹ (λ (deadline : ℕ). named k deadline isIn log) mark (K .mark-logged k (omega arith))
 
 -- a message that was sent
 abbrev pub WasSent : List Sent → Message → Type 0

@@ -8,60 +8,60 @@ use lib.Dec.{eqb·suc-zero}
 use Rattle.rules.specs.Panel.{Name, Make, Panel}
 use Rattle.rules.specs.Settling.{Settled}
 use Rattle.rules.specs.Results.{Call, send, receive, clock, Result, refused, done, unless}
-use Rattle.rules.specs.Lists.{Made, recordAt, framesSent, framesTaken, nameIn, timeAfter, Sent, sends}
+use Rattle.rules.specs.Lists.{Made, givenTo, framesSent, framesTaken, nameIn, timeAfter, Sent, sends}
 use Rattle.rules.proofs.LogRecords.{EachReadable, namesIn-over}
 use Rattle.rules.proofs.Cause.{SendsSound}
 use Rattle.rules.proofs.Keeping.{logWith, Keeps}
-use Rattle.rules.proofs.Sites.{Site, siteAt, siteAfter, siteAt-here, siteAt-other, siteAfter-refused, Placed, SiteSound}
+use Rattle.rules.proofs.Sites.{Site, siteAt, siteFor, siteAfter, siteAt-here, siteAt-other, siteAfter-refused, Placed, SiteSound, of-make}
 
-pub record ListSound (makes : ℕ → Make) (list : List Made) : Type 0 where
+pub record ListSound (list : List Made) : Type 0 where
   pub sends-sound : SendsSound (sends list)
-  pub sites : (i : ℕ) → SiteSound (sends list) i (siteAt makes i list)
+  pub sites : (i : ℕ) → SiteSound (sends list) i (siteAt i list)
 
 -- ---- one more call
 
 -- from what holds of the messages sent, of the panel that was called, and of the others
-pub list-with : {makes : ℕ → Make} (made : Made) (earlier : List Made) (ss : List Sent) → sends (made ∷ earlier) ≡ ss → SendsSound ss
-    → SiteSound ss (made .at) (siteAfter (siteAt makes (made .at) earlier) (made .call) (made .result))
-    → ((i : ℕ) → i ≢ made .at → SiteSound ss i (siteAt makes i earlier)) → ListSound makes (made ∷ earlier)
-list-with {makes} made earlier ss e S here others =
-    record { sends-sound = subst⁻¹ SendsSound e S; sites = λ i. subst⁻¹ (λ ts. SiteSound ts i (siteAt makes i (made ∷ earlier))) e (site i) }
+pub list-with : (made : Made) (earlier : List Made) (ss : List Sent) → sends (made ∷ earlier) ≡ ss → SendsSound ss
+    → SiteSound ss (made .at) (siteAfter (siteAt (made .at) earlier) (made .call) (made .result))
+    → ((i : ℕ) → i ≢ made .at → SiteSound ss i (siteAt i earlier)) → ListSound (made ∷ earlier)
+list-with made earlier ss e S here others =
+    record { sends-sound = subst⁻¹ SendsSound e S; sites = λ i. subst⁻¹ (λ ts. SiteSound ts i (siteAt i (made ∷ earlier))) e (site i) }
   where
-    site : (i : ℕ) → SiteSound ss i (siteAt makes i (made ∷ earlier))
+    site : (i : ℕ) → SiteSound ss i (siteAt i (made ∷ earlier))
     site i =
         by-cases (ℕ-discrete i (made .at))
-        (λ q. subst⁻¹ (λ j. SiteSound ss j (siteAt makes j (made ∷ earlier))) q (subst⁻¹ (SiteSound ss (made .at)) (siteAt-here makes made earlier) here))
-        (λ q. subst⁻¹ (SiteSound ss i) (siteAt-other makes i made earlier q) (others i q))
+        (λ q. subst⁻¹ (λ j. SiteSound ss j (siteAt j (made ∷ earlier))) q (subst⁻¹ (SiteSound ss (made .at)) (siteAt-here made earlier) here))
+        (λ q. subst⁻¹ (SiteSound ss i) (siteAt-other i made earlier q) (others i q))
 
--- the call on panel i that gave this result
-abbrev pub made : ℕ → Call → Result → Made
-made i call result = record { at = i; call = call; result = result }
+-- the call on panel i, of that make, that gave this result
+abbrev pub made : ℕ → Make → Call → Result → Made
+made i make call result = record { at = i; make = make; call = call; result = result }
 
-module _ {makes : ℕ → Make} (earlier : List Made) (L : ListSound makes earlier) (i : ℕ) (call : Call) where
-  sends-quiet : (result : Result) → framesSent call result ≡ [] → sends (made i call result ∷ earlier) ≡ sends earlier
+module _ (earlier : List Made) (L : ListSound earlier) (i : ℕ) (make : Make) (call : Call) where
+  sends-quiet : (result : Result) → framesSent call result ≡ [] → sends (made i make call result ∷ earlier) ≡ sends earlier
   unfolding sends
   sends-quiet result e = rw e refl
 
   -- a call that sends nothing
-  pub quiet-step : (result : Result) → framesSent call result ≡ [] → SiteSound (sends earlier) i (siteAfter (siteAt makes i earlier) call result)
-      → ListSound makes (made i call result ∷ earlier)
+  pub quiet-step : (result : Result) → framesSent call result ≡ [] → SiteSound (sends earlier) i (siteAfter (siteAt i earlier) call result)
+      → ListSound (made i make call result ∷ earlier)
   quiet-step result e here = list-with _ earlier (sends earlier) (sends-quiet result e) (L .sends-sound) here (λ j _. L .sites j)
 
   -- a refused call
-  framesSent-refused : (c : Call) (output buffer : List ℕ) (n : ℕ) → framesSent c (refused (recordAt makes i earlier) output buffer (suc n)) ≡ []
+  framesSent-refused : (c : Call) (output buffer : List ℕ) (n : ℕ) → framesSent c (refused (givenTo i make earlier) output buffer (suc n)) ≡ []
   unfolding framesSent refused
   framesSent-refused (send payload lifetime output′ buffer′) output buffer n = rw (eqb·suc-zero n) refl
   framesSent-refused (receive bytes output′) output buffer n = refl
   framesSent-refused (clock time output′) output buffer n = refl
 
   -- a call with that number of its refusal, where all is well if it is 0
-  pub unless-step : (number : ℕ) (output buffer : List ℕ) (result : Result) → (number ≡ 0 → ListSound makes (made i call result ∷ earlier))
-      → ListSound makes (made i call (unless number (refused (recordAt makes i earlier) output buffer) result) ∷ earlier)
+  pub unless-step : (number : ℕ) (output buffer : List ℕ) (result : Result) → (number ≡ 0 → ListSound (made i make call result ∷ earlier))
+      → ListSound (made i make call (unless number (refused (givenTo i make earlier) output buffer) result) ∷ earlier)
   unfolding unless
   unless-step zero output buffer result h = h refl
   unless-step (suc n) output buffer result h =
       quiet-step _ (framesSent-refused call output buffer n)
-      (subst⁻¹ (SiteSound (sends earlier) i) (siteAfter-refused (siteAt makes i earlier) call output buffer n) (L .sites i))
+      (subst⁻¹ (SiteSound (sends earlier) i) (siteAfter-refused (siteFor make (siteAt i earlier)) call output buffer n) (of-make make (L .sites i)))
 
 -- ---- a call that is not refused
 

@@ -19,18 +19,18 @@ use Rattle.frame.proofs.FirstOf.{eachNumber, firstOf-each}
 use Rattle.frame.proofs.Theorems.{reading-frame}
 use Rattle.frame.proofs.Readable.{readable-true}
 use Rattle.rules.specs.Sizes.{width}
-use Rattle.rules.specs.Panel.{Name, Make, newMake, Panel, ready, fresh}
+use Rattle.rules.specs.Panel.{Name, Make, Panel, ready, fresh}
 use Rattle.rules.specs.Handing.{logRecords}
 use Rattle.rules.specs.Settling.{settle}
 use Rattle.rules.specs.Calls.{newMessage, receiving}
 use Rattle.rules.specs.Refusals.{isRefusal, Listed, broken, freshNumber, freshRecord}
 use Rattle.rules.specs.Results.{Call, outputOf, bufferOf, checksOf, effectOf, frameOf, Result, refused, done, defined, Promised, send}
 use Rattle.rules.specs.Visiting.{traceChecks, trace}
-use Rattle.rules.specs.Lists.{_isIn_, Made, on, recordAt, logAt, Lawful, AllPromised, ran}
+use Rattle.rules.specs.Lists.{_isIn_, Made, recordAt, givenTo, logAt, Lawful, AllPromised, ran}
 use Rattle.rules.specs.Demand3.{Demand3}
 use Rattle.rules.proofs.Booleans.{or-either, cond-both}
 use Rattle.rules.proofs.Settling.{settle-settles}
-use Rattle.rules.proofs.Handed.{effect-count, effect-make}
+use Rattle.rules.proofs.Handed.{effect-count}
 use Rattle.rules.proofs.Checks.{false-broken, send-passed, new-readable}
 use Rattle.rules.proofs.Cause.{named, known-deadline}
 use Rattle.rules.proofs.Results.{defined-both, defined-number, passed-valid, BytesOf, output-fits, buffer-fits, checks-listed, number-26}
@@ -41,8 +41,8 @@ use Rattle.rules.proofs.Reached.{list-sound, logged-whole, whole-logged
 -- ---- demand 3
 
 -- After every list of calls that each gave what it promises.
-pub demand-3 : (makes : ℕ → Make) (list : List Made) → Lawful list → AllPromised makes list → Demand3 makes list
-demand-3 makes list lawful promised =
+pub demand-3 : (list : List Made) → Lawful list → AllPromised list → Demand3 list
+demand-3 list lawful promised =
     let L = list-sound list lawful promised in
     record {
       as-defined = promised;
@@ -52,40 +52,26 @@ demand-3 makes list lawful promised =
     }
 
 -- So a module that keeps its promises keeps demand 3, after every list of calls.
-pub every-list : (makes : ℕ → Make) (gives : Panel → Call → Result) → ((p : Panel) (call : Call) → Promised p call (gives p call))
-    → (calls : List (ℕ × Call)) → Lawful (ran makes gives calls) → Demand3 makes (ran makes gives calls)
-every-list makes gives promise calls lawful = demand-3 makes (ran makes gives calls) lawful (promised calls)
+pub every-list : (gives : Panel → Call → Result) → ((p : Panel) (call : Call) → Promised p call (gives p call))
+    → (calls : List (ℕ × Make × Call)) → Lawful (ran gives calls) → Demand3 (ran gives calls)
+every-list gives promise calls lawful = demand-3 (ran gives calls) lawful (promised calls)
   where
-    promised : (calls : List (ℕ × Call)) → AllPromised makes (ran makes gives calls)
+    promised : (calls : List (ℕ × Make × Call)) → AllPromised (ran gives calls)
     promised [] = tt
-    promised (next ∷ earlier) = (promise (recordAt makes (next .0) (ran makes gives earlier)) (next .1), promised earlier)
-
--- Each panel stays of its make.
-pub make-stays : (makes : ℕ → Make) (list : List Made) → AllPromised makes list → (panel : ℕ) → recordAt makes panel list .make ≡ makes panel
-unfolding recordAt fresh refused done
-make-stays makes [] promised panel = refl
-make-stays makes (last ∷ earlier) (promise, promised) panel =
-    cond-both (λ (p : Panel). p .make ≡ makes panel) (on panel last)
-    (λ here.
-    let same = eqb-true panel (last .at) here in
-    rw (promise, same)
-    (defined-both (λ r. r .panel .make ≡ makes (last .at)) (recordAt makes (last .at) earlier) (last .call)
-    (λ n e. make-stays makes earlier promised (last .at))
-    (λ e. effect-make (recordAt makes (last .at) earlier) (last .call) ∙ make-stays makes earlier promised (last .at))))
-    (λ _. make-stays makes earlier promised panel)
+    promised ((panel, make, call) ∷ earlier) = (promise (givenTo panel make (ran gives earlier)) call, promised earlier)
 
 -- A mark is the largest deadline in this panel's log from that source; 0 means none.
-pub mark-largest : (makes : ℕ → Make) (list : List Made) → Lawful list → AllPromised makes list → (panel source : ℕ)
-    → let mark = getD (recordAt makes panel list .marks) source 0 in
+pub mark-largest : (list : List Made) → Lawful list → AllPromised list → (panel source : ℕ)
+    → let mark = getD (recordAt panel list .marks) source 0 in
     ((x : Name) → x isIn logAt panel list → x .source ≡ source → x .deadline ≤ mark) × (0 < mark → named source mark isIn logAt panel list)
     × ((mark ≡ 0) ↔ ((x : Name) → x isIn logAt panel list → x .source ≢ source))
-mark-largest makes list lawful promised panel source = (below, largest, (none, zero))
+mark-largest list lawful promised panel source = (below, largest, (none, zero))
   where
-    L : ListSound makes list
+    L : ListSound list
     L = list-sound list lawful promised
 
     mark : ℕ
-    mark = getD (recordAt makes panel list .marks) source 0
+    mark = getD (recordAt panel list .marks) source 0
 
     below : (x : Name) → x isIn logAt panel list → x .source ≡ source → x .deadline ≤ mark
     below x logged same = rw same at (L .sites panel .sound .summary .below-mark x logged)
@@ -101,18 +87,18 @@ mark-largest makes list lawful promised panel source = (below, largest, (none, z
     zero without = by-cases (decLt 0 mark) (λ above. absurd (without _ (largest above) refl)) (λ e. omega (arith, e))
 
 -- A record reached by a list is never refused with 26.
-pub never-26 : (makes : ℕ → Make) (list : List Made) → Lawful list → AllPromised makes list → (panel : ℕ) → panel < 64
-    → (call : Call) → defined (recordAt makes panel list) call .number ≢ 26
-never-26 makes list lawful promised panel lt call =
-    number-26 (recordAt makes panel list) call
-    (false-broken (recordAt makes panel list) (reached-valid list (list-sound list lawful promised) panel lt))
+pub never-26 : (list : List Made) → Lawful list → AllPromised list → (panel : ℕ) → panel < 64
+    → (call : Call) → defined (recordAt panel list) call .number ≢ 26
+never-26 list lawful promised panel lt call =
+    number-26 (recordAt panel list) call
+    (false-broken (recordAt panel list) (reached-valid list (list-sound list lawful promised) panel lt))
 
 -- At a record reached by a list, a message that a trace shows not to be ready, and that is not refused, waits: its receive hands nothing.
-pub trace-waits-reached : (makes : ℕ → Make) (list : List Made) → Lawful list → AllPromised makes list → (panel : ℕ) (bytes : List ℕ)
-    → let p = recordAt makes panel list in
+pub trace-waits-reached : (list : List Made) → Lawful list → AllPromised list → (panel : ℕ) (bytes : List ℕ)
+    → let p = recordAt panel list in
     trace p bytes .number ≡ 0 → trace p bytes .ready ≡ false → receiving p (messageIn width bytes) .handed ≡ []
-trace-waits-reached makes list lawful promised panel bytes =
-    trace-waits (recordAt makes panel list) bytes (list-sound list lawful promised .sites panel .settled)
+trace-waits-reached list lawful promised panel bytes =
+    trace-waits (recordAt panel list) bytes (list-sound list lawful promised .sites panel .settled)
 
 -- ---- settling
 
@@ -188,5 +174,5 @@ unfolding freshRecord recordAt
 fresh-valid own =
     cond-both (λ p. broken p ≡ false) (ltb 63 own) (λ _. valid 0 (omega arith)) (λ e. valid own (omega (arith, ltb-false 63 own e)))
   where
-    valid : (panel : ℕ) → panel < 64 → broken (fresh newMake panel) ≡ false
-    valid panel lt = false-broken (fresh newMake panel) (reached-valid [] (list-sound {makes = λ _. newMake} [] tt tt) panel lt)
+    valid : (panel : ℕ) → panel < 64 → broken (fresh panel) ≡ false
+    valid panel lt = false-broken (fresh panel) (reached-valid [] (list-sound [] tt tt) panel lt)

@@ -1,16 +1,11 @@
 -- Document 02, W-204: cases of shorter barriers, at panels of the new make and of the old one.
 use Prim.Native.Nat.{ℕ}
-use mathlib.Core.List.{List, [], _∷_, _++_}
+use mathlib.Core.List.{List, [], _∷_}
 use lib.ListN.{replicate}
 use Rattle.frame.specs.Message.{Message, messageOf}
-use Rattle.rules.specs.Panel.{Make, oldMake, newMake, Panel, none64, fresh}
+use Rattle.rules.specs.Panel.{Make, oldMake, newMake, fresh, ofMake}
 use Rattle.rules.specs.Results.{send, receive}
 use Rattle.rules.specs.Cases.{Step, step, of, panelOf, output, buffer, logged, frameFrom, zeros8, sent, taken, refusedWith}
-
--- a panel of that make
-abbrev pub ofMake : Make → Panel → Panel
-ofMake make p =
-    record { own = p .own; time = p .time; high = p .high; marks = p .marks; barrier = p .barrier; waiting = p .waiting; make = make }
 
 -- ---- A busy yard. Panels 0, 1, 2 and 3, at time 0, send one message each, with lifetimes 100, 200, 300 and 400: A, B, C and D. Each has those
 -- before its own in its log. B names A; so a new panel that has A and B in its log names B alone. Of the old make C has 27 bytes and D 31; of
@@ -68,10 +63,10 @@ caseYard make =
     let panel1 = ofMake make (panelOf 1 0 100 markA markA []) in
     let panel2 = ofMake make (panelOf 2 0 100 markA markA []) in
     let with2 = ofMake make (panelOf 2 0 200 markB (barrierB make) []) in
-    step (fresh make 0) (send [] 100 output buffer) (sent (ofMake make (panelOf 0 0 100 markA markA [])) (lineA ∷ []) frameA)
-    ∷ step (fresh make 1) (receive frameA output) (taken panel1 (lineA ∷ []))
+    step (ofMake make (fresh 0)) (send [] 100 output buffer) (sent (ofMake make (panelOf 0 0 100 markA markA [])) (lineA ∷ []) frameA)
+    ∷ step (ofMake make (fresh 1)) (receive frameA output) (taken panel1 (lineA ∷ []))
     ∷ step panel1 (send [] 200 output buffer) (sent (ofMake make (panelOf 1 0 200 markB (of ((1, 200) ∷ [])) [])) (lineB ∷ []) frameB)
-    ∷ step (fresh make 2) (receive frameA output) (taken panel2 (lineA ∷ []))
+    ∷ step (ofMake make (fresh 2)) (receive frameA output) (taken panel2 (lineA ∷ []))
     ∷ step panel2 (receive frameB output) (taken with2 (lineB ∷ []))
     ∷ step with2 (send [] 300 output buffer) (sent (ofMake make (panelOf 2 0 300 markC (of ((2, 300) ∷ [])) [])) (lineC ∷ []) (frameC make))
     ∷ []

@@ -222,8 +222,8 @@ caseTrace =
     let of6 = frameFrom (0x06 ∷ []) (drop 6 after) in
     let had : List (ℕ × ℕ) → Panel = λ marks. panelOf 0 0 900 (of marks) none64 [] in
     let all : List (ℕ × ℕ) = (3, 800) ∷ (7, 800) ∷ (9, 800) ∷ [] in
-    look (fresh newMake 0) frame1 0 true 0  -- no bit is set
-    ∷ look (fresh newMake 0) frame2 0 false 1
+    look (fresh 0) frame1 0 true 0  -- no bit is set
+    ∷ look (fresh 0) frame2 0 false 1
     ∷ look (had []) after 0 false 1
     ∷ look (had ((3, 800) ∷ [])) after 0 false 2  -- the empty bits between are not visited, nor is 9 behind
     ∷ look (had ((7, 800) ∷ (9, 800) ∷ [])) after 0 false 1  -- lowest first
@@ -235,8 +235,8 @@ caseTrace =
     ∷ look (had ((5, 900) ∷ (3, 800) ∷ [])) after 22 false 2
     ∷ look (panelOf 0 0 900 (of ((3, 800) ∷ [])) none64 (queue 32)) after 22 false 2  -- it waits already
     ∷ look (panelOf 0 0 900 (of ((3, 800) ∷ [])) none64 (queue 32)) of6 23 false 2
-    ∷ look (fresh newMake 0) farFrame1 32 true 0  -- too far ahead
-    ∷ look (fresh newMake 0) farFrame2 32 false 1
+    ∷ look (fresh 0) farFrame1 32 true 0  -- too far ahead
+    ∷ look (fresh 0) farFrame2 32 false 1
     ∷ look (panelOf 0 0 900 (of all) none64 (queue 32)) of6 0 true 3
     ∷ look (panelOf 64 0 900 (of ((3, 800) ∷ [])) none64 []) after 26 false 2  -- a broken record has marks and a time all the same
     ∷ look (had all) (take 18 after) 1 false 0

@@ -1,11 +1,11 @@
 -- Demand 3, as it is proved (`demand-3` and `every-list` in proofs/Theorems.antt). `list` is any list of calls, refused ones included, on
--- fresh panels with different numbers, in which each receive is given a frame that an earlier send of the list wrote, or is refused. `makes` is
--- any mixture: it says of each panel which make it is of. What is said of the logs is the same for every mixture.
+-- fresh panels with different numbers, old and new in any mixture, in which each receive is given a frame that an earlier send of the list
+-- wrote, or is refused.
 use Prim.Native.Nat.{ℕ}
 use mathlib.Core.Path.{_≡_}
 use mathlib.Core.Logic.{_↔_, _⊎_}
 use mathlib.Core.List.{List, [], _∷_}
-use Rattle.rules.specs.Panel.{Name, Make}
+use Rattle.rules.specs.Panel.{Name}
 use Rattle.rules.specs.Lists.{_isIn_, Made, sentAt, takenAt, logAt, LapsedAt, sends, Before, AllPromised}
 
 -- x stands ahead of y
@@ -28,9 +28,10 @@ NoneTwice list = (panel : ℕ) (x : Name) → ¬ Ahead x x (logAt panel list)
 abbrev pub NoneAhead : List Made → Type 0
 NoneAhead list = (panel : ℕ) (x y : Name) → Ahead x y (logAt panel list) → ¬ Before (sends list) y x
 
-pub record Demand3 (makes : ℕ → Make) (list : List Made) : Type 0 where
-  -- Every call's answer, the record it gave back and all bytes of its lent buffers are as documents 01 and 02 define them for its panel's make.
-  pub as-defined : AllPromised makes list
+pub record Demand3 (list : List Made) : Type 0 where
+  -- Every call's answer, the record it gave back and all bytes of its lent buffers are as documents 01 and 02 define them for
+  -- the make of its panel.
+  pub as-defined : AllPromised list
   -- what it says of the logs
   pub exactly-when : ExactlyWhen list
   pub none-twice : NoneTwice list

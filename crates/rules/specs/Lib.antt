@@ -19,6 +19,7 @@ pub mod Visiting
 pub mod Lists
 pub mod Demand3
 pub mod FarAhead
+pub mod Barriers
 pub mod Cases
 pub mod FarAheadCases
 pub mod BarrierCases

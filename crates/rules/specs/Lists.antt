@@ -9,7 +9,7 @@ use lib.Dec.{eqb}
 use Rattle.numbers.specs.Numbers.{Bytes, numberAt}
 use Rattle.frame.specs.Reading.{messageIn}
 use Rattle.rules.specs.Sizes.{width, logRecordLength}
-use Rattle.rules.specs.Panel.{Name, nameOf, Make, Panel, fresh}
+use Rattle.rules.specs.Panel.{Name, nameOf, Make, Panel, fresh, ofMake}
 use Rattle.rules.specs.Results.{Call, send, receive, clock, Result, Promised}
 
 -- x is an element of the list
@@ -17,10 +17,12 @@ infix 4 _isIn_
 abbrev pub _isIn_ : {A : Type 0} → A → List A → Type 0
 x isIn xs = List·Memᴰ x xs
 
--- One call of a list: the number of the panel that it names, the call, and what it gave. In a list the latest call stands first, and behind it
--- the earlier ones. No two panels have the same number, so that the number names the panel.
+-- One call of a list: the number of the panel that it names, the make of that panel, the call, and what it gave. In a list the latest call stands
+-- first, and behind it the earlier ones. No two panels have the same number, so that the number names the panel. Old and new panels share a
+-- farm, in any mixture, and a panel may be brought from one make to the other between two calls.
 pub record Made : Type 0 where
   pub at : ℕ
+  pub make : Make
   pub call : Call
   pub result : Result
 
@@ -34,10 +36,14 @@ ifDone result done otherwise = cond (eqb (result .number) 0) done otherwise
 
 -- ---- the record that a call works on
 
--- Each call works on the record that the last call on that panel gave back, at first the fresh one of the panel's make.
-unfoldable pub recordAt : (ℕ → Make) → ℕ → List Made → Panel
-recordAt makes panel [] = fresh (makes panel) panel
-recordAt makes panel (made ∷ earlier) = cond (on panel made) (made .result .panel) (recordAt makes panel earlier)
+-- Each call works on the record that the last call on that panel gave back, at first the fresh one.
+unfoldable pub recordAt : ℕ → List Made → Panel
+recordAt panel [] = fresh panel
+recordAt panel (made ∷ earlier) = cond (on panel made) (made .result .panel) (recordAt panel earlier)
+
+-- that record for a call of a panel of that make
+abbrev pub givenTo : ℕ → Make → List Made → Panel
+givenTo panel make earlier = ofMake make (recordAt panel earlier)
 
 -- ---- sent, taken
 
@@ -130,13 +136,13 @@ Lawful [] = Unit {0}
 Lawful (made ∷ earlier) = Given (sends earlier) (made .call) (made .result) × Lawful earlier
 
 -- each call gave what it promises
-abbrev pub AllPromised : (ℕ → Make) → List Made → Type 0
-AllPromised makes [] = Unit {0}
-AllPromised makes (made ∷ earlier) = Promised (recordAt makes (made .at) earlier) (made .call) (made .result) × AllPromised makes earlier
+abbrev pub AllPromised : List Made → Type 0
+AllPromised [] = Unit {0}
+AllPromised (made ∷ earlier) = Promised (givenTo (made .at) (made .make) earlier) (made .call) (made .result) × AllPromised earlier
 
--- the list that comes of these calls, the latest first, each with the result that a module gives
-abbrev pub ran : (ℕ → Make) → (Panel → Call → Result) → List (ℕ × Call) → List Made
-ran makes gives [] = []
-ran makes gives (next ∷ earlier) =
-    let made = ran makes gives earlier in
-    record { at = next .0; call = next .1; result = gives (recordAt makes (next .0) made) (next .1) } ∷ made
+-- the list that comes of these calls, the latest first, each on a panel of a number and of a make, with the result that a module gives
+abbrev pub ran : (Panel → Call → Result) → List (ℕ × Make × Call) → List Made
+ran gives [] = []
+ran gives ((panel, make, call) ∷ earlier) =
+    let made = ran gives earlier in
+    record { at = panel; make = make; call = call; result = gives (givenTo panel make made) call } ∷ made

@@ -22,7 +22,8 @@ pub data Make : Type 0 where
 -- Own number; time; high; 64 marks; 64 barrier entries; up to 32 waiting messages in the order taken, each with the fields and payload of its
 -- frame. A mark is the largest deadline in this panel's log from that source; 0 means none. A barrier entry of 0 means that the source has no
 -- entry. (In the field's terms: the marks are the registry of what was delivered, the barrier is the causal barrier, waiting is pending.)
--- The make stands beside them, as handing goes by it. No call changes it, no frame carries it, and the module's own panels are of the new one.
+-- Beside them stands the make of the panel that works on the record, as handing goes by it. (It is in no byte: the module's panels are of the
+-- new make.)
 pub record Panel : Type 0 where
   pub own : ℕ
   pub time : ℕ
@@ -37,8 +38,13 @@ unfoldable pub none64 : List ℕ
 none64 = replicate 64 0
 
 -- A fresh panel has time 0, high 0, all marks and barrier entries 0, and nothing waiting.
-unfoldable pub fresh : Make → ℕ → Panel
-fresh make own = record { own = own; time = 0; high = 0; marks = none64; barrier = none64; waiting = []; make = make }
+unfoldable pub fresh : ℕ → Panel
+fresh own = record { own = own; time = 0; high = 0; marks = none64; barrier = none64; waiting = []; make = newMake }
+
+-- the record, as a panel of that make works on it
+abbrev pub ofMake : Make → Panel → Panel
+ofMake make p =
+    record { own = p .own; time = p .time; high = p .high; marks = p .marks; barrier = p .barrier; waiting = p .waiting; make = make }
 
 -- Lapsed: deadline below the panel's time. A deadline equal to the time is alive.
 unfoldable pub lapsed : Panel → ℕ → Bool

@@ -11,7 +11,7 @@ use Rattle.frame.specs.Refusal.{firstOf}
 use Rattle.frame.specs.Reading.{checks, messageIn}
 use Rattle.frame.specs.Readable.{eachBelow, readable}
 use Rattle.rules.specs.Sizes.{width, lastDeadline, outputLength, bufferLength}
-use Rattle.rules.specs.Panel.{newMake, Panel, fresh, lapsed, ready}
+use Rattle.rules.specs.Panel.{Panel, fresh, lapsed, ready}
 use Rattle.rules.specs.Calls.{sendDeadline}
 
 -- ---- 26
@@ -59,7 +59,7 @@ freshNumber own = firstOf ((ltb 63 own, 11) ∷ [])
 
 -- the record that comes with it is a fresh panel 0
 unfoldable pub freshRecord : ℕ → Panel
-freshRecord own = cond (ltb 63 own) (fresh newMake 0) (fresh newMake own)
+freshRecord own = cond (ltb 63 own) (fresh 0) (fresh own)
 
 -- ---- the checks of each call, in order, each with its number
 

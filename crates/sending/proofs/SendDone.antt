@@ -19,7 +19,7 @@ use Rattle.writing.proofs.Written.{written-frame}
 use Rattle.rules.specs.Sizes.{width}
 use Rattle.rules.specs.Panel.{Panel as Record, newMake, none64}
 use Rattle.rules.specs.Handing.{raise, barrierFor, hand, logRecord, logRecords}
-use Rattle.rules.specs.Settling.{settle, withWaiting}
+use Rattle.rules.specs.Settling.{settle}
 use Rattle.rules.specs.Calls.{sendDeadline, newMessage, emptied, handAndSettle, sending}
 use Rattle.rules.specs.Refusals.{broken, sendChecks}
 use Rattle.rules.specs.Results.{Promised, send}

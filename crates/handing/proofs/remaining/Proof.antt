@@ -1,7 +1,5 @@
 -- `handing::remaining` meets its contract. Assumes nothing.
-use mathlib.Core.Path.{sym}
 use borrow.Author.Tests.{le-leb, lt-leb}
-use native.Mathlib.Omega.{arith}
 use Rattle.handing.proofs.remaining.Statement.{statement}
 use Rattle.handing.proofs.remaining.Tie as tie
 

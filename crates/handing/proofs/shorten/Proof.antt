@@ -1,17 +1,16 @@
 -- `handing::shorten` meets its contract. Its loop's invariant is `ShortBelow`: below the panel that the walk has come to, the barrier is as it is
 -- to be. Assumes nothing.
-use mathlib.Core.Path.{_≡_, sym, _∙_, subst}
+use mathlib.Core.Path.{sym, subst}
 use Prim.Native.Nat.{ℕ, _+_, _-_, _*_, _^_, _≤_, _<_}
 use native.Mathlib.Omega.{arith}
 use borrow.Author.Needs.{needs}
 use denote.Ref.{now}
-use lib.ListN.{length, getD}
+use lib.ListN.{length}
 use lib.Bits.{and-le-r}
-use Rattle.numbers.specs.Numbers.{numberAt}
 use Rattle.frame.proofs.Passed.{zero-passed}
 use Rattle.slots.proofs.SetBits.{next}
 use Rattle.slots.proofs.Walk.{turn-lt, turn-room}
-use Rattle.handing.proofs.Shortening.{remains, ShortBelow, short-start, short-end, short-on}
+use Rattle.handing.proofs.Shortening.{ShortBelow, short-start, short-end, short-on}
 use Rattle.handing.proofs.shorten.Statement.{statement}
 use Rattle.handing.proofs.shorten.Tie as tie
 

@@ -26,7 +26,7 @@ use Rattle.rules.proofs.Theorems.{demand-3, number-listed, reading-listed, fres
 use Rattle.rules.proofs.Visiting.{visits-counted}
 use Rattle.rules.proofs.Tracing.{trace-number, trace-handed}
 use Rattle.rules.proofs.FarAhead.{far-ahead, causes-near}
-use Rattle.rules.proofs.Raise.{own-goes-in}
+use Rattle.rules.proofs.Shortened.{own-goes-in}
 use Rattle.rules.proofs.Barriers.{no-longer, stays-or-goes}
 use Rattle.exports.proofs.Fresh.{freshRecord-within}
 use Rattle.demands.specs.Beginning.{BeginsInPlace, BeginsByValue}

@@ -13,7 +13,7 @@ use lib.Dec.{leb}
 use Rattle.numbers.specs.Numbers.{numberAt}
 use Rattle.frame.specs.Reading.{maskIn, messageIn}
 use Rattle.rules.specs.Handing.{shortened}
-use Rattle.rules.proofs.Raise.{without-entry, getD-shortened, length-shortened}
+use Rattle.rules.proofs.Shortened.{without-entry, getD-shortened, length-shortened}
 use Rattle.slots.proofs.SetBits.{next}
 use Rattle.slots.proofs.Walk.{entryOf, Walk, walk-start, end-none, turn-entry, turn-above, turn-skips, walk-on}
 

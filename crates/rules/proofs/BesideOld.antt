@@ -15,7 +15,8 @@ use Rattle.rules.specs.Settling.{choice, chosen, without, withWaiting, S
 use Rattle.rules.specs.Calls.{emptied, withTime}
 use Rattle.rules.specs.Results.{done}
 use Rattle.rules.specs.Barriers.{withBarrier}
-use Rattle.rules.proofs.Raise.{length-raise, raise-mono, raise-bound, getD-barrierFor, length-barrierFor, getD-none64, length-none64}
+use Rattle.rules.proofs.Raise.{length-raise, raise-mono, raise-bound, getD-none64, length-none64}
+use Rattle.rules.proofs.Shortened.{getD-barrierFor, length-barrierFor}
 
 -- ---- the record of the old make, and a barrier beside its own
 

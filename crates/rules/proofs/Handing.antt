@@ -11,7 +11,8 @@ use Rattle.frame.specs.Message.{Message}
 use Rattle.rules.specs.Panel.{Name, nameOf, Make, Panel, none64, ready}
 use Rattle.rules.specs.Handing.{raise, barrierFor, hand}
 use Rattle.rules.specs.Lists.{_isIn_, Sent, Before, direct}
-use Rattle.rules.proofs.Raise.{length-raise, raise-same, raise-other, raise-le, StaysOrRemoved, getD-barrierFor, length-barrierFor, getD-none64}
+use Rattle.rules.proofs.Raise.{length-raise, raise-same, raise-other, raise-le, getD-none64}
+use Rattle.rules.proofs.Shortened.{StaysOrRemoved, getD-barrierFor, length-barrierFor}
 use Rattle.rules.proofs.WaitingList.{isIn-end}
 use Rattle.rules.proofs.Ready.{limit, dead, dead-limit, dead-hand, limit-hand, ready-true}
 use Rattle.rules.proofs.Cause.{carried, named, name-path, Known, Upto, Covered, SendsSound, upto-before, upto-upto, upto-rises, source-order, known-deadline, known-source, before-covered}

@@ -4,6 +4,7 @@ pub mod Booleans
 pub mod Ready
 pub mod Visiting
 pub mod Raise
+pub mod Shortened
 pub mod WaitingList
 pub mod Choice
 pub mod ChoiceUpwards

@@ -1,21 +1,16 @@
--- Laws of `raise`, by which marks and barrier entries grow, of a shortened barrier, and of 64 zeros. Assumes nothing.
+-- Laws of `raise`, by which marks and barrier entries grow, and of 64 zeros. Assumes nothing.
 use Prim.Native.Nat.{ℕ, zero, suc, _≤_, _<_, max}
 use native.Mathlib.Nat.{max-le}
 use native.Mathlib.Decide.{ℕ-discrete, decLt}
 use native.Mathlib.Omega.{arith}
-use mathlib.Core.Path.{_≡_, refl, sym, ap, _∙_}
-use mathlib.Core.Logic.{_⊎_, inl, inr, _≢_, by-cases}
-use mathlib.Core.Bool.{cond}
-use mathlib.Core.List.{List, [], _∷_}
+use mathlib.Core.Path.{_≡_, refl}
+use mathlib.Core.Logic.{_≢_, by-cases}
+use mathlib.Core.List.{List}
 use lib.ListN.{length, getD, replicate, length-set, length-replicate, List·getD-eq-default}
-use lib.Seq.{getD-set-same, getD-set-other, ext-getD}
-use lib.Dec.{leb}
-use borrow.Author.Tests.{leb-true, lt-leb}
+use lib.Seq.{getD-set-same, getD-set-other}
 use Rattle.frame.specs.Message.{Message}
-use Rattle.rules.specs.Panel.{Make, oldMake, newMake, Panel, none64}
-use Rattle.rules.specs.Handing.{raise, shortened, barrierFor, hand}
-use Rattle.rules.specs.Barriers.{OwnGoesIn}
-use Rattle.rules.proofs.Booleans.{cond-both}
+use Rattle.rules.specs.Panel.{none64}
+use Rattle.rules.specs.Handing.{raise}
 
 pub length-raise : (ns : List ℕ) (m : Message) → length (raise ns m) ≡ length ns
 unfolding raise
@@ -68,81 +63,6 @@ raise-bound ns m limit le panel =
     (λ other. omega (arith, le panel, raise-other ns m panel other)))
     (λ past. omega (arith, raise-past ns m panel (omega (arith, past))))
 
--- ---- the barrier that a message's own deadline goes into
-
--- where the message has no entry, the barrier's stays
-pub without-entry : (b : ℕ) → cond (leb b 0) 0 b ≡ b
-without-entry b = cond-both (λ n. n ≡ b) (leb b 0) (λ e. omega (arith, leb-true b 0 e)) (λ _. refl)
-
-pub getD-shortened : (barrier entries : List ℕ) (k : ℕ)
-    → getD (shortened barrier entries) k 0 ≡ cond (leb (getD barrier k 0) (getD entries k 0)) 0 (getD barrier k 0)
-unfolding shortened
-getD-shortened [] entries k = cond-both (λ n. 0 ≡ n) (leb 0 (getD entries k 0)) (λ _. refl) (λ _. refl)
-getD-shortened (b ∷ barrier) [] k = sym (without-entry (getD (b ∷ barrier) k 0))
-getD-shortened (b ∷ barrier) (entry ∷ entries) zero = refl
-getD-shortened (b ∷ barrier) (entry ∷ entries) (suc k) = getD-shortened barrier entries k
-
-pub length-shortened : (barrier entries : List ℕ) → length (shortened barrier entries) ≡ length barrier
-unfolding shortened
-length-shortened [] entries = refl
-length-shortened (b ∷ barrier) [] = refl
-length-shortened (b ∷ barrier) (entry ∷ entries) = ap suc (length-shortened barrier entries)
-
--- each entry stays, or is removed and is at most the message's
-abbrev pub StaysOrRemoved : List ℕ → Panel → Message → ℕ → Type 0
-StaysOrRemoved b p m k = (getD b k 0 ≡ getD (p .barrier) k 0) ⊎ ((getD b k 0 ≡ 0) × (getD (p .barrier) k 0 ≤ getD (m .entries) k 0))
-
-pub getD-barrierFor : (make : Make) (p : Panel) (m : Message) (k : ℕ) → StaysOrRemoved (barrierFor make p m) p m k
-unfolding barrierFor
-getD-barrierFor oldMake p m k = inl refl
-getD-barrierFor newMake p m k =
-    let b = getD (p .barrier) k 0 in
-    let entry = getD (m .entries) k 0 in
-    rw (getD-shortened (p .barrier) (m .entries) k)
-    (cond-both (λ n. (n ≡ b) ⊎ ((n ≡ 0) × (b ≤ entry))) (leb b entry) (λ e. inr (refl, leb-true b entry e)) (λ _. inl refl))
-
-pub length-barrierFor : (make : Make) (p : Panel) (m : Message) → length (barrierFor make p m) ≡ length (p .barrier)
-unfolding barrierFor
-length-barrierFor oldMake p m = refl
-length-barrierFor newMake p m = length-shortened (p .barrier) (m .entries)
-
--- whatever entries a message carries, its own deadline stands in the barrier once it was handed
-pub own-goes-in : (p : Panel) (m : Message) → OwnGoesIn p m
-unfolding hand
-own-goes-in p m lt =
-    let b = barrierFor (p .make) p m in
-    omega (arith, raise-same b m (omega (arith, lt, length-barrierFor (p .make) p m)))
-
--- of a message whose entry for its own source is below its deadline, as in every frame, it makes no difference which comes first
-pub either-first : (barrier : List ℕ) (m : Message) → getD (m .entries) (m .source) 0 < m .deadline
-    → shortened (raise barrier m) (m .entries) ≡ raise (shortened barrier (m .entries)) m
-either-first barrier m below =
-    ext-getD 0 (shortened (raise barrier m) es) (raise (shortened barrier es) m)
-    (length-shortened (raise barrier m) es ∙ length-raise barrier m ∙ sym (length-raise (shortened barrier es) m ∙ length-shortened barrier es))
-    (λ k lt.
-    getD-shortened (raise barrier m) es k
-    ∙ by-cases (ℕ-discrete k (m .source))
-    (λ (e : k ≡ m .source). rw e (same (omega (arith, lt, e, length-shortened (raise barrier m) es, length-raise barrier m)))) (apart k))
-  where
-    es : List ℕ
-    es = m .entries
-
-    left : ℕ → ℕ → ℕ
-    left b entry = cond (leb b entry) 0 b
-
-    apart : (k : ℕ) → k ≢ m .source → left (getD (raise barrier m) k 0) (getD es k 0) ≡ getD (raise (shortened barrier es) m) k 0
-    apart k other =
-        ap (λ (b : ℕ). left b (getD es k 0)) (raise-other barrier m k other)
-        ∙ sym (raise-other (shortened barrier es) m k other ∙ getD-shortened barrier es k)
-
-    same : m .source < length barrier → left (getD (raise barrier m) (m .source) 0) (getD es (m .source) 0) ≡ getD (raise (shortened barrier es) m) (m .source) 0
-    same lt =
-        let b = getD barrier (m .source) 0 in
-        let entry = getD es (m .source) 0 in
-        rw (raise-same barrier m lt, raise-same (shortened barrier es) m (omega (arith, lt, length-shortened barrier es)), getD-shortened barrier es (m .source))
-        (rw (lt-leb (max b (m .deadline)) entry (omega arith))
-        (cond-both (λ n. max b (m .deadline) ≡ max n (m .deadline)) (leb b entry) (λ e. omega (arith, leb-true b entry e)) (λ _. refl)))
-
 -- ---- 64 zeros
 
 zeros : (n panel : ℕ) → getD {A = ℕ} (replicate n 0) panel 0 ≡ 0
@@ -153,19 +73,6 @@ zeros (suc n) (suc panel) = zeros n panel
 pub getD-none64 : (panel : ℕ) → getD none64 panel 0 ≡ 0
 unfolding none64
 getD-none64 panel = zeros 64 panel
-
--- of an empty barrier nothing is removed
-shortened-zeros : (n : ℕ) (entries : List ℕ) → shortened (replicate n 0) entries ≡ replicate n 0
-unfolding shortened
-shortened-zeros zero entries = refl
-shortened-zeros (suc n) [] = refl
-shortened-zeros (suc n) (entry ∷ entries) =
-    cond-both (λ b. (b ∷ shortened (replicate n 0) entries) ≡ 0 ∷ replicate n 0) (leb 0 entry) (λ _. ap (λ l. 0 ∷ l) (shortened-zeros n entries))
-    (λ _. ap (λ l. 0 ∷ l) (shortened-zeros n entries))
-
-pub shortened-none64 : (entries : List ℕ) → shortened none64 entries ≡ none64
-unfolding none64
-shortened-none64 entries = shortened-zeros 64 entries
 
 pub length-none64 : length none64 ≡ 64
 unfolding none64

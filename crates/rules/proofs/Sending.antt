@@ -12,7 +12,8 @@ use Rattle.rules.specs.Panel.{Name, Panel}
 use Rattle.rules.specs.Handing.{hand}
 use Rattle.rules.specs.Calls.{emptied}
 use Rattle.rules.specs.Lists.{_isIn_, Sent, Before, direct}
-use Rattle.rules.proofs.Raise.{length-barrierFor, length-none64}
+use Rattle.rules.proofs.Raise.{length-none64}
+use Rattle.rules.proofs.Shortened.{length-barrierFor}
 use Rattle.rules.proofs.Ready.{limit, dead, dead-limit, dead-hand, limit-hand, limit-emptied, dead-emptied}
 use Rattle.rules.proofs.Cause.{carried, name, named, Known, Covered, SendsSound, LastStep, last, before-more, before-old}
 use Rattle.rules.proofs.Sound.{LoggedOrDead, LogSound, SummarySound, WaitingSound, PanelSound, known-sent, ahead-isIn, Next, log-end}

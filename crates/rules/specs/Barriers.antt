@@ -1,4 +1,4 @@
--- Document 02, W-204: what is shown of shorter barriers, beside demand 3 (`own-goes-in` of `Raise`; `no-longer` and `stays-or-goes` of
+-- Document 02, W-204: what is shown of shorter barriers, beside demand 3 (`own-goes-in` of `Shortened`; `no-longer` and `stays-or-goes` of
 -- `Barriers`): a panel that is of either make, or is brought from one to the other, beside one that was of the old make at the same calls.
 use Prim.Native.Nat.{ℕ, _≤_, _<_}
 use mathlib.Core.Path.{_≡_}

@@ -23,7 +23,7 @@ use Rattle.rules.specs.Settling.{settle}
 use Rattle.rules.specs.Calls.{sendDeadline, newMessage, emptied, handAndSettle, sending}
 use Rattle.rules.specs.Refusals.{broken, sendChecks}
 use Rattle.rules.specs.Results.{Promised, send}
-use Rattle.rules.proofs.Raise.{shortened-none64}
+use Rattle.rules.proofs.Shortened.{shortened-none64}
 use Rattle.rules.proofs.Checks.{SendPassed, send-passed, new-readable}
 use Rattle.rules.proofs.LogRecords.{length-logRecord}
 use Rattle.slots.specs.Slots.{Reads, Kept, firstSlots}

@@ -1,13 +1,14 @@
 -- `handing::remaining` meets its contract. Assumes nothing.
 use borrow.Author.Tests.{le-leb, lt-leb}
+use native.Mathlib.Omega.{arith}
 use Rattle.handing.proofs.remaining.Statement.{statement}
 use Rattle.handing.proofs.remaining.Tie as tie
 
 returns : tie.Need-returns
-returns c = simp (le-leb _ _ (c .if1 .taken))
+returns c = let a = c .before .args in simp (le-leb (a .entry) (a .carried) (omega (arith, c .if1 .taken)))
 
 returns-2 : tie.Need-returns-2
-returns-2 c = simp (lt-leb _ _ (c .if1 .left))
+returns-2 c = let a = c .before .args in simp (lt-leb (a .entry) (a .carried) (omega (arith, c .if1 .left)))
 
 pub remaining-spec : {M : Type 1} → statement M
 remaining-spec = tie.close (tie.spec returns returns-2)

@@ -1,16 +1,16 @@
 -- `handing::shorten` meets its contract. Its loop's invariant is `ShortBelow`: below the panel that the walk has come to, the barrier is as it is
 -- to be. Assumes nothing.
-use mathlib.Core.Path.{sym, subst}
+use mathlib.Core.Path.{sym, ap, _∙_, subst}
 use Prim.Native.Nat.{ℕ, _+_, _-_, _*_, _^_, _≤_, _<_}
 use native.Mathlib.Omega.{arith}
 use borrow.Author.Needs.{needs}
 use denote.Ref.{now}
-use lib.ListN.{length}
+use lib.ListN.{length, getD}
 use lib.Bits.{and-le-r}
 use Rattle.frame.proofs.Passed.{zero-passed}
 use Rattle.slots.proofs.SetBits.{next}
 use Rattle.slots.proofs.Walk.{turn-lt, turn-room}
-use Rattle.handing.proofs.Shortening.{ShortBelow, short-start, short-end, short-on}
+use Rattle.handing.proofs.Shortening.{remains, ShortBelow, short-start, short-end, short-on}
 use Rattle.handing.proofs.shorten.Statement.{statement}
 use Rattle.handing.proofs.shorten.Tie as tie
 
@@ -84,8 +84,9 @@ loop-less c =
 loop-again : tie.Need-loop-again Inv-loop μ-loop
 loop-again c =
     let turn = c .before .before .before in
-    short-on _ _ _ _ _ (turn .before .loop .inv) (turn .loop-test .taken) (c .remaining .result)
-    (rw (← c .before .before .number-at2 .ensures .0) (c .remaining .ensures))
+    let l = turn .before .loop in
+    short-on _ _ _ _ _ (l .inv) (turn .loop-test .taken) (c .remaining .result)
+    (c .remaining .ensures ∙ ap (remains (getD (l .barrier) (next (l .bits)) 0)) (c .before .before .number-at2 .ensures .0))
 
 returns : tie.Need-returns Inv-loop μ-loop
 returns c = short-end _ _ _ _ _ (c .before .loop .inv) (c .loop-test .left)

@@ -73,7 +73,7 @@ uint8_t c_send(Record *record, Slice payload, uint16_t lifetime, Buffer output,
     compose(record, payload, (uint32_t)deadline, &message);
     written->length = c_frame_write(&message, buffer.bytes);
     memset(record->barrier, 0, sizeof record->barrier);
-    hand(record, &message, output.bytes);
+    put_in_log(record, &message, output.bytes); /* handed: no barrier entry is left to remove */
     written->count = settle(record, output.bytes, 1);
     return 0;
 }

@@ -73,8 +73,22 @@ static inline bool is_waiting(const Record *record, const Message *message)
     return false;
 }
 
-/* Hands a message and writes its log record. */
-static inline void hand(Record *record, const Message *message, uint8_t *log)
+/*
+ * Removes each barrier entry that is at most the message's entry for the same
+ * panel. It goes from one set bit to the next, as the test for ready does.
+ */
+static inline void shorten_barrier(Record *record, const Message *message)
+{
+    const uint32_t *entry = message->entries;
+    for (uint64_t rest = message->mask; rest != 0; rest &= rest - 1, entry++) {
+        int source = __builtin_ctzll(rest);
+        if (record->barrier[source] <= *entry)
+            record->barrier[source] = 0;
+    }
+}
+
+/* Puts a message into marks, barrier and high, and writes its log record. */
+static inline void put_in_log(Record *record, const Message *message, uint8_t *log)
 {
     uint8_t source = message->source;
     record->marks[source] = larger(record->marks[source], message->deadline);
@@ -86,6 +100,12 @@ static inline void hand(Record *record, const Message *message, uint8_t *log)
     log[5] = message->length;
     memcpy(log + 6, message->payload, message->length);
     memset(log + 6 + message->length, 0, (size_t)(PAYLOAD_MAX - message->length));
+}
+
+static inline void hand(Record *record, const Message *message, uint8_t *log)
+{
+    shorten_barrier(record, message);
+    put_in_log(record, message, log);
 }
 
 /* Does a go before b? Equal ones keep the order of the list. */

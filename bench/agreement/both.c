@@ -103,6 +103,8 @@ static void end_on_record(PanelAnswer answer, uint8_t c_number, Written written,
     }
     same_record(panel, record);
     saw_accepted(written.count, record->count);
+    if (call.kind == RECEIVE || call.kind == CLOCK) /* the others empty the barrier */
+        saw_barrier(call.record.barrier, record->barrier);
     for (size_t i = 0; i <= written.count; i++)
         both_log((Slice){output.proved + MARGIN, LOG_RECORD * written.count}, i);
 }

@@ -28,8 +28,9 @@ void random_panel(Panel *panel)
     for (int s = 0; s < PANELS; s++) {
         if (chance(400))
             panel->marks[s] = plus(about, (int64_t)random_below(100) - 50);
-        if (chance(400))
-            panel->barrier[s] = plus(about, (int64_t)random_below(100) - 50);
+        if (chance(400)) /* often at the mark, which entries lie about */
+            panel->barrier[s] = chance(500) ? panel->marks[s]
+                                            : plus(about, (int64_t)random_below(100) - 50);
         if (panel->high < panel->marks[s])
             panel->high = panel->marks[s];
         if (panel->high < panel->barrier[s])

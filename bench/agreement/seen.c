@@ -8,6 +8,7 @@
 static unsigned long seen[KINDS][256];
 static unsigned long handed_seen[WAITING_MAX + 2];
 static unsigned long waiting_seen[WAITING_MAX + 1];
+static unsigned long removed_seen[PANELS]; /* the source of the last one handed has an entry */
 static unsigned long visits_seen[2][PANELS + 1]; /* of messages that are not ready, and ready */
 
 void saw_number(uint8_t number)
@@ -19,6 +20,14 @@ void saw_accepted(size_t handed, size_t waiting)
 {
     handed_seen[handed]++;
     waiting_seen[waiting]++;
+}
+
+void saw_barrier(const uint32_t *before, const uint32_t *after)
+{
+    size_t removed = 0;
+    for (int s = 0; s < PANELS; s++)
+        removed += before[s] != 0 && after[s] == 0;
+    removed_seen[removed]++;
 }
 
 void saw_visits(bool ready, size_t visited)
@@ -69,6 +78,9 @@ void print_seen(void)
            sum(handed_seen, 8, 31), handed_seen[32], handed_seen[33]);
     printf("waiting after accepted calls: none %lu, 1 to 31 %lu, 32 %lu\n", waiting_seen[0],
            sum(waiting_seen, 1, WAITING_MAX - 1), waiting_seen[WAITING_MAX]);
+    printf("barrier entries removed by receives and clock calls: none %lu, 1 %lu, 2 to 7 %lu, "
+           "8 to 63 %lu\n", removed_seen[0], removed_seen[1], sum(removed_seen, 2, 7),
+           sum(removed_seen, 8, PANELS - 1));
     print_visits("ready", visits_seen[true]);
     print_visits("not ready", visits_seen[false]);
     printf("log records read: %lu, and %lu times there was none\n", seen[LOG][0], seen[LOG][1]);

@@ -10,6 +10,9 @@ void saw_number(uint8_t number);
 /* What an accepted call handed and left waiting. */
 void saw_accepted(size_t handed, size_t waiting);
 
+/* The barrier before an accepted receive or clock call, and after it. */
+void saw_barrier(const uint32_t *before, const uint32_t *after);
+
 /* What a trace answered beside its number. */
 void saw_visits(bool ready, size_t visited);
 

@@ -24,6 +24,24 @@ static void ready_rows(void)
     row("receive, ready, 307 bytes, 0 waiting", 0, 1);
 }
 
+/* Ready ones whose entries are those of the barrier; in the rows above they remove none of it. */
+static void shorter_rows(void)
+{
+    Message ready = usual(50, 2000), largest = longest(50, 2000);
+
+    empty();
+    for (int source = 40; source < 43; source++)
+        now.panel.barrier[source] = 590;
+    to_receive(&ready);
+    row("receive, ready, 3 barrier entries removed", 0, 1);
+    long_frames(0);
+    now.panel.marks[62] = 600;
+    for (int source = 0; source < PANELS; source++)
+        now.panel.barrier[source] = 500;
+    to_receive(&largest);
+    row("receive, ready, 64 barrier entries removed", 0, 1);
+}
+
 static void waits_rows(void)
 {
     Message waits = early(50, 2000), between = middle(50, 2000), largest = longest(50, 2000);
@@ -110,6 +128,7 @@ static void bundle_rows(void)
 void receive_rows(void)
 {
     ready_rows();
+    shorter_rows();
     waits_rows();
     settle_rows();
     read_rows();

@@ -1,5 +1,5 @@
 /*
- * Three panels of a farm in one process: what they send, hand, keep waiting, drop and refuse, what
+ * Four panels of a farm in one process: what they send, hand, keep waiting, drop and refuse, what
  * a trace tells of it, and the log of each in the end. It prints what stands in farm.txt;
  * examples/run.sh builds it.
  */
@@ -9,7 +9,7 @@
 #include <stdlib.h>
 #include <string.h>
 
-enum { LOG_MAX = 16, BUNDLE_MAX = 1024 };
+enum { LOG_MAX = 16, BUNDLE_MAX = 1024, CHAIN = 3 };
 enum { YEAR = 365 * 24 * 60 * 60 }; /* in seconds */
 
 /* A panel: its record, and its log so far. */
@@ -217,6 +217,40 @@ static void print_log(const Member *member)
     }
 }
 
+/* Two panels send each other a chain of messages: each has the one before it as its cause. */
+static void send_chain(Member *one, Member *other, Parcel chain[CHAIN])
+{
+    chain[0] = send_text(one, "hold batch 6");
+    receive(other, &chain[0]);
+    chain[1] = send_text(other, "moisture 19");
+    receive(one, &chain[1]);
+    set_clock(one, 200);
+    chain[2] = send_text(one, "hold lifted");
+}
+
+/* A panel gets them in the wrong order, and the first once more by another route. */
+static void wrong_order(Member *member, const Parcel chain[CHAIN])
+{
+    receive(member, &chain[2]);
+    receive(member, &chain[1]);
+    check_damaged(chain[0]);
+    receive(member, &chain[0]);
+    receive(member, &chain[0]);
+}
+
+/*
+ * A panel gets them in order, and sends a note. The barrier entry of each was removed when the next
+ * one was handed, which names it. So the frame has one entry, that of the last: 23 bytes and the
+ * text, however long the chain is.
+ */
+static void short_frame(Member *member, const Parcel chain[CHAIN])
+{
+    for (size_t i = 0; i < CHAIN; i++)
+        receive(member, &chain[i]);
+    Parcel note = send_text(member, "load batch 6");
+    printf("its frame has %zu bytes, %zu of them text\n", note.length, strlen(note.text));
+}
+
 /* A tractor cab brings two messages of a panel to another, the later one first, and drives on. */
 static Cab by_cab(Member *from, Member *to)
 {
@@ -282,27 +316,18 @@ static void wrong_year(Member *wrong, Member *one, Member *other)
 
 int main(void)
 {
-    static Member three, five, nine;
+    static Member three, five, nine, twelve;
+    Parcel chain[CHAIN];
 
     /* no common clock */
     start(&three, 3, 100);
     start(&five, 5, 90);
     start(&nine, 9, 110);
+    start(&twelve, 12, 120);
 
-    /* each message has the one before it as its cause */
-    Parcel hold = send_text(&three, "hold batch 6");
-    receive(&five, &hold);
-    Parcel moisture = send_text(&five, "moisture 19");
-    receive(&three, &moisture);
-    set_clock(&three, 200);
-    Parcel lifted = send_text(&three, "hold lifted");
-
-    /* panel 9 gets them in the wrong order, and the first once more by another route */
-    receive(&nine, &lifted);
-    receive(&nine, &moisture);
-    check_damaged(hold);
-    receive(&nine, &hold);
-    receive(&nine, &hold);
+    send_chain(&three, &five, chain);
+    wrong_order(&nine, chain);
+    short_frame(&twelve, chain);
 
     Cab cab = by_cab(&five, &nine);
     too_late(&three, &nine);
@@ -319,5 +344,6 @@ int main(void)
     print_log(&three);
     print_log(&five);
     print_log(&nine);
+    print_log(&twelve);
     return 0;
 }

@@ -169,6 +169,39 @@ fn take_along(bundle: &mut Vec<u8>, parcel: &Parcel) {
     bundle.extend_from_slice(&parcel.frame);
 }
 
+/// Two panels send each other a chain of messages: each has the one before it as its cause.
+fn send_chain(one: &mut Member, other: &mut Member) -> Result<[Parcel; 3], Refusal> {
+    let hold = one.send("hold batch 6")?;
+    other.receive(&hold);
+    let moisture = other.send("moisture 19")?;
+    one.receive(&moisture);
+    one.set_clock(200)?;
+    let lifted = one.send("hold lifted")?;
+    Ok([hold, moisture, lifted])
+}
+
+/// A panel gets them in the wrong order, and the first once more by another route.
+fn wrong_order(member: &mut Member, [hold, moisture, lifted]: &[Parcel; 3]) {
+    member.receive(lifted);
+    member.receive(moisture);
+    check_damaged(hold);
+    member.receive(hold);
+    member.receive(hold);
+}
+
+/// A panel gets them in order, and sends a note. The barrier entry of each was removed when the
+/// next one was handed, which names it. So the frame has one entry, that of the last: 23 bytes and
+/// the text, however long the chain is.
+fn short_frame(member: &mut Member, chain: &[Parcel; 3]) -> Result<(), Refusal> {
+    for parcel in chain {
+        member.receive(parcel);
+    }
+    let note = member.send("load batch 6")?;
+    let (bytes, text) = (note.frame.len(), note.text.len());
+    println!("its frame has {bytes} bytes, {text} of them text");
+    Ok(())
+}
+
 /// A tractor cab brings two messages of a panel to another, the later one first, and drives on with
 /// its bundle.
 fn by_cab(from: &mut Member, to: &mut Member) -> Result<Vec<u8>, Refusal> {
@@ -228,21 +261,11 @@ fn story() -> Result<(), Refusal> {
     let mut three = Member::start(3, 100)?;
     let mut five = Member::start(5, 90)?;
     let mut nine = Member::start(9, 110)?;
+    let mut twelve = Member::start(12, 120)?;
 
-    // each message has the one before it as its cause
-    let hold = three.send("hold batch 6")?;
-    five.receive(&hold);
-    let moisture = five.send("moisture 19")?;
-    three.receive(&moisture);
-    three.set_clock(200)?;
-    let lifted = three.send("hold lifted")?;
-
-    // panel 9 gets them in the wrong order, and the first once more by another route
-    nine.receive(&lifted);
-    nine.receive(&moisture);
-    check_damaged(&hold);
-    nine.receive(&hold);
-    nine.receive(&hold);
+    let chain = send_chain(&mut three, &mut five)?;
+    wrong_order(&mut nine, &chain);
+    short_frame(&mut twelve, &chain)?;
 
     let bundle = by_cab(&mut five, &mut nine)?;
     too_late(&mut three, &mut nine)?;
@@ -259,6 +282,7 @@ fn story() -> Result<(), Refusal> {
     three.print_log();
     five.print_log();
     nine.print_log();
+    twelve.print_log();
     Ok(())
 }
 

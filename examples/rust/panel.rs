@@ -6,6 +6,12 @@
 //! an older record. One thing is left: the stack. A call takes `STACK_BYTES` at most, and what it
 //! returns 2 KB; a `Panel` has 10 KB, twice that while `Panel::fresh` makes it. Nothing is
 //! allocated.
+//!
+//! The barrier of a panel has the entries that its next frame carries. When a message is handed,
+//! each barrier entry that is at most the entry this message carries for the same panel is removed,
+//! before the message's own goes in: frames stay short at a busy yard. Panels older than version
+//! 0.6 removed nothing. Old and new panels can share a farm: each reads the frames of the other, no
+//! setting is needed, and the causal order of the logs holds in every mixture of the two.
 #![no_std]
 
 use core::fmt;
@@ -497,10 +503,11 @@ impl Panel {
         Ok(panel)
     }
 
-    /// Sends a payload of at most 32 bytes; a lifetime of 0 means `LIFETIME_DEFAULT`. The first of
-    /// the log records is that of the message sent. Its deadline is above the largest in the log:
-    /// if that puts it further ahead than `FARTHEST_AHEAD`, the other panels refuse it until their
-    /// time is near enough.
+    /// Sends a payload of at most 32 bytes; a lifetime of 0 means `LIFETIME_DEFAULT`. The frame has
+    /// 19 bytes, 4 for each barrier entry, and the payload; then the barrier is emptied. The first
+    /// of the log records is that of the message sent. Its deadline is above the largest in the
+    /// log: if that puts it further ahead than `FARTHEST_AHEAD`, the other panels refuse it until
+    /// their time is near enough.
     pub fn send(&mut self, payload: &[u8], lifetime: u16) -> Result<(Frame, Log), Refusal> {
         let mut frame = Frame::new();
         let mut log = Log::new();
@@ -561,9 +568,10 @@ impl Panel {
         Ok((frame, log))
     }
 
-    /// Receives the bytes of a frame, whole or damaged. A deadline above the time and
-    /// `FARTHEST_AHEAD` is refused with `Refusal::TooFarAhead`. Such a frame may be received again,
-    /// and is taken once the time is near enough.
+    /// Receives the bytes of a frame, whole or damaged. Its message is handed if it is ready, and
+    /// waits otherwise; each message that is handed removes barrier entries. A deadline above the
+    /// time and `FARTHEST_AHEAD` is refused with `Refusal::TooFarAhead`. Such a frame may be
+    /// received again, and is taken once the time is near enough.
     pub fn receive(&mut self, frame: &[u8]) -> Result<Log, Refusal> {
         let mut log = Log::new();
         // SAFETY: the frame is a slice, the output an array of this function; both are passed with
@@ -588,7 +596,8 @@ impl Panel {
         Ok(log)
     }
 
-    /// Sets the time, drops what has lapsed, and settles.
+    /// Sets the time, drops what has lapsed, and settles. Each message that is handed removes
+    /// barrier entries; the time removes none.
     pub fn clock(&mut self, time: u32) -> Result<Log, Refusal> {
         let mut log = Log::new();
         // SAFETY: the output is an array of this function, passed with its length.

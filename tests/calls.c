@@ -1,8 +1,8 @@
 /*
  * The calls as a C program sees them: bench cases 1, 2 and 4 to 11 of document 01, the first two
- * with the deadlines of document 02, W-203; beacons; deadlines far ahead; every refusal and the
- * order of refusals; traces, of every frame that is received and of some more; and what a call
- * leaves as it was.
+ * with the deadlines of document 02, W-203; beacons; deadlines far ahead; shorter barriers; every
+ * refusal and the order of refusals; traces, of every frame that is received and of some more; and
+ * what a call leaves as it was.
  * Frames and log records are written in hexadecimal, by hand.
  */
 #include "checks.h"
@@ -301,6 +301,17 @@ static void run(const char *name, const Step *steps, size_t count)
 #define EIGHT "6162636465666768"
 #define THIRTY_TWO EIGHT EIGHT EIGHT EIGHT
 
+/* The frame of a message of panel 20 with deadline 1000, and an entry of 100 of each panel of a
+   mask. */
+static void put_entries(char *text, size_t size, uint64_t mask)
+{
+    size_t end = (size_t)snprintf(text, size, "445259 0001 14 000003e8 %016llx",
+                                  (unsigned long long)mask);
+    for (; mask != 0; mask &= mask - 1)
+        end += (size_t)snprintf(text + end, size - end, " 00000064");
+    snprintf(text + end, size - end, " 00");
+}
+
 /* ---- Bench cases ---- */
 
 static const Step cases_1_and_2[] = {
@@ -360,7 +371,7 @@ static const Step case_7[] = {
     {__LINE__, RECEIVE, .at = 2, .bytes = FROM_1_DUE_100,
      .log = {"01 00000064 00", "05 000000c8 00", "09 000000c8 00"},
      .record = {.high = 200, .marks = {{1, 100}, {5, 200}, {9, 200}},
-                .barrier = {{1, 100}, {5, 200}, {9, 200}}}},
+                .barrier = {{5, 200}, {9, 200}}}},
     {__LINE__, RECEIVE, .at = 4, .bytes = FROM_5_DUE_200_AFTER_1,
      .record = {.waiting = {FROM_5_DUE_200_AFTER_1}}},
     {__LINE__, RECEIVE, .at = 4, .bytes = FROM_9_DUE_200_AFTER_1,
@@ -368,7 +379,7 @@ static const Step case_7[] = {
     {__LINE__, RECEIVE, .at = 4, .bytes = FROM_1_DUE_100,
      .log = {"01 00000064 00", "05 000000c8 00", "09 000000c8 00"},
      .record = {.high = 200, .marks = {{1, 100}, {5, 200}, {9, 200}},
-                .barrier = {{1, 100}, {5, 200}, {9, 200}}}},
+                .barrier = {{5, 200}, {9, 200}}}},
 };
 
 /* At panel 2 the clock passes both. At panel 4 it reaches the entry, and then passes it alone. At
@@ -442,7 +453,7 @@ static void case_9(void)
 {
     static char logs[PANEL_WAITING_MAX][16];
     static const Record settled = {.high = 131, .marks = {{1, 50}, {2, 131}, {4, 60}},
-                                   .barrier = {{1, 50}, {2, 131}, {4, 60}}};
+                                   .barrier = {{2, 131}, {4, 60}}};
 
     start("case 9");
     fill();
@@ -495,7 +506,7 @@ static const Step settling[] = {
     {__LINE__, RECEIVE, .at = 8, .bytes = CHAIN_1,
      .log = {"01 00000064 01 61", "05 000000c8 00", "02 0000012c 01 61"},
      .record = {.high = 300, .marks = {{1, 100}, {5, 200}, {2, 300}},
-                .barrier = {{1, 100}, {5, 200}, {2, 300}}, .waiting = {CHAIN_4}}},
+                .barrier = {{5, 200}, {2, 300}}, .waiting = {CHAIN_4}}},
     /* mark, barrier entry and high stay the larger ones where a lower deadline is handed later */
     {__LINE__, RECEIVE, .at = 9, .bytes = FROM_2_DUE_300_AFTER_1,
      .record = {.waiting = {FROM_2_DUE_300_AFTER_1}}},
@@ -504,7 +515,7 @@ static const Step settling[] = {
                 .waiting = {FROM_2_DUE_300_AFTER_1}}},
     {__LINE__, RECEIVE, .at = 9, .bytes = CHAIN_1,
      .log = {"01 00000064 01 61", "02 0000012c 01 61"},
-     .record = {.high = 400, .marks = {{1, 100}, {2, 400}}, .barrier = {{1, 100}, {2, 400}}}},
+     .record = {.high = 400, .marks = {{1, 100}, {2, 400}}, .barrier = {{2, 400}}}},
     /* a send settles after the own message was handed, and empties the barrier before that */
     {__LINE__, RECEIVE, .at = 2, .bytes = CHAIN_1, .log = {"01 00000064 01 61"},
      .record = {.high = 100, .marks = {{1, 100}}, .barrier = {{1, 100}}}},
@@ -513,7 +524,7 @@ static const Step settling[] = {
     {__LINE__, SEND, .at = 2, .bytes = "6f", .value = 1200,
      .frame = "445259 0001 02 000004b0 0000000000000002 00000064 01 6f",
      .log = {"02 000004b0 01 6f", "01 000007d0 01 61"},
-     .record = {.high = 2000, .marks = {{1, 2000}, {2, 1200}}, .barrier = {{1, 2000}, {2, 1200}}}},
+     .record = {.high = 2000, .marks = {{1, 2000}, {2, 1200}}, .barrier = {{1, 2000}}}},
     /* the longest lifetime, and buffers beyond the least */
     {__LINE__, SEND, .at = 10, .bytes = "6f", .value = 65535, .output_more = MORE_MAX,
      .buffer_more = MORE_MAX,
@@ -558,7 +569,7 @@ static const Step beacons[] = {
     {__LINE__, BEACON, .at = 2, .bytes = "6f",
      .frame = "445259 0001 02 000004b0 0000000000000000 01 6f",
      .log = {"02 000004b0 01 6f", "01 000007d0 01 61"},
-     .record = {.high = 2000, .marks = {{1, 2000}, {2, 1200}}, .barrier = {{1, 2000}, {2, 1200}}}},
+     .record = {.high = 2000, .marks = {{1, 2000}, {2, 1200}}, .barrier = {{1, 2000}}}},
     /* the last deadline; one more by high, and by the time */
     {__LINE__, CLOCK, .at = 5, .value = 4294966095, .record = {.time = 4294966095}},
     {__LINE__, BEACON, .at = 5, .bytes = "",
@@ -727,7 +738,7 @@ static const Step sent_far_ahead[] = {
     {__LINE__, RECEIVE, .at = 4, .bytes = FROM_1_DUE_1209700,
      .log = {"01 00127564 00", "02 00127565 01 6f", "02 00127566 00"},
      .record = {.time = 102, .high = 1209702, .marks = {{1, 1209700}, {2, 1209702}},
-                .barrier = {{1, 1209700}, {2, 1209702}}}},
+                .barrier = {{2, 1209702}}}},
 };
 
 /* A message that is far ahead at time 100, and waits for one of panel 2 with deadline 200. */
@@ -767,7 +778,7 @@ static const Step far_ahead_handed[] = {
     {__LINE__, RECEIVE, .at = 3, .bytes = "445259 0001 02 000000c8 0000000000000000 00",
      .log = {"02 000000c8 00", "05 00127566 00"},
      .record = {.time = 100, .high = 1209702, .marks = {{1, 1209701}, {2, 200}, {5, 1209702}},
-                .barrier = {{1, 1209701}, {2, 200}, {5, 1209702}}}},
+                .barrier = {{1, 1209701}, {5, 1209702}}}},
     {__LINE__, CLOCK, .at = 3, .value = 201, .log = {"05 00127566 00"},
      .record = {.time = 201, .high = 1209702, .marks = {{1, 1209701}, {5, 1209702}},
                 .barrier = {{1, 1209701}, {5, 1209702}}}},
@@ -820,6 +831,196 @@ static void farthest_deadlines(void)
         }
         receive_due(__LINE__, time, last, far ? PANEL_REFUSED_TOO_FAR_AHEAD : PANEL_ACCEPTED);
     }
+}
+
+/* ---- Shorter barriers ---- */
+
+/* Notes of panels 0 to 3 at time 0, each sent when those before it were in the log; and the third
+   as an old panel sends it, where handing removes nothing. */
+#define NOTE_0 "445259 0001 00 00000064 0000000000000000 00"
+#define NOTE_1 "445259 0001 01 000000c8 0000000000000001 00000064 00"
+#define NOTE_2 "445259 0001 02 0000012c 0000000000000002 000000c8 00"
+#define NOTE_2_OLD "445259 0001 02 0000012c 0000000000000003 00000064 000000c8 00"
+#define NOTE_3 "445259 0001 03 00000190 0000000000000004 0000012c 00"
+
+static const Step busy_yard[] = {
+    {__LINE__, SEND, .at = 0, .bytes = "", .value = 100, .frame = NOTE_0, .log = {"00 00000064 00"},
+     .record = {.high = 100, .marks = {{0, 100}}, .barrier = {{0, 100}}}},
+    {__LINE__, RECEIVE, .at = 1, .bytes = NOTE_0, .log = {"00 00000064 00"},
+     .record = {.high = 100, .marks = {{0, 100}}, .barrier = {{0, 100}}}},
+    {__LINE__, SEND, .at = 1, .bytes = "", .value = 200, .frame = NOTE_1, .log = {"01 000000c8 00"},
+     .record = {.high = 200, .marks = {{0, 100}, {1, 200}}, .barrier = {{1, 200}}}},
+    {__LINE__, RECEIVE, .at = 2, .bytes = NOTE_0, .log = {"00 00000064 00"},
+     .record = {.high = 100, .marks = {{0, 100}}, .barrier = {{0, 100}}}},
+    {__LINE__, RECEIVE, .at = 2, .bytes = NOTE_1, .log = {"01 000000c8 00"},
+     .record = {.high = 200, .marks = {{0, 100}, {1, 200}}, .barrier = {{1, 200}}}},
+    {__LINE__, SEND, .at = 2, .bytes = "", .value = 300, .frame = NOTE_2, .log = {"02 0000012c 00"},
+     .record = {.high = 300, .marks = {{0, 100}, {1, 200}, {2, 300}}, .barrier = {{2, 300}}}},
+    {__LINE__, RECEIVE, .at = 3, .bytes = NOTE_0, .log = {"00 00000064 00"},
+     .record = {.high = 100, .marks = {{0, 100}}, .barrier = {{0, 100}}}},
+    {__LINE__, RECEIVE, .at = 3, .bytes = NOTE_1, .log = {"01 000000c8 00"},
+     .record = {.high = 200, .marks = {{0, 100}, {1, 200}}, .barrier = {{1, 200}}}},
+    {__LINE__, RECEIVE, .at = 3, .bytes = NOTE_2, .log = {"02 0000012c 00"},
+     .record = {.high = 300, .marks = {{0, 100}, {1, 200}, {2, 300}}, .barrier = {{2, 300}}}},
+    {__LINE__, SEND, .at = 3, .bytes = "", .value = 400, .frame = NOTE_3, .log = {"03 00000190 00"},
+     .record = {.high = 400, .marks = {{0, 100}, {1, 200}, {2, 300}, {3, 400}},
+                .barrier = {{3, 400}}}},
+};
+
+/* Panel 3 receives a frame; its log records are put behind those of the calls before. */
+static size_t log_received(const char *frame, uint8_t *log)
+{
+    static const Step receive = {__LINE__, RECEIVE, .at = 3};
+    uint8_t bytes[BYTES_MAX];
+    size_t length = put_bytes(bytes, frame);
+
+    lend(&panels[3]);
+    PanelAnswer answer = make(&receive, bytes, length);
+    same_answer(__LINE__, RECEIVE, answer.number, PANEL_ACCEPTED);
+    memcpy(log, output + MARGIN, answer.count * PANEL_LOG_RECORD);
+    memcpy(&panels[3], &lent.panel, sizeof panels[3]);
+    return answer.count * PANEL_LOG_RECORD;
+}
+
+/* The first three notes reach panel 3 in any order, the third as a new panel sends it or an old
+   one: they are logged in the order of cause, and its own note is that of the busy yard. */
+static void old_and_new(const char *note_2)
+{
+    static const uint8_t orders[][3] = {{0, 1, 2}, {0, 2, 1}, {1, 0, 2},
+                                        {1, 2, 0}, {2, 0, 1}, {2, 1, 0}};
+    static const char *const records[] = {"00 00000064 00", "01 000000c8 00", "02 0000012c 00"};
+    const char *const notes[] = {NOTE_0, NOTE_1, note_2};
+    uint8_t log[3 * PANEL_OUTPUT_MIN], expected[3 * PANEL_LOG_RECORD] = {0};
+
+    for (size_t i = 0; i < 3; i++)
+        put_bytes(expected + i * PANEL_LOG_RECORD, records[i]);
+    for (size_t order = 0; order < sizeof orders / sizeof orders[0]; order++) {
+        size_t length = 0;
+        start("old and new panels");
+        for (size_t i = 0; i < 3; i++)
+            length += log_received(notes[orders[order][i]], log + length);
+        same_number(__LINE__, "length of the log", length, sizeof expected);
+        same_bytes(__LINE__, "log", log, expected, sizeof expected, 0);
+        step(&busy_yard[sizeof busy_yard / sizeof busy_yard[0] - 1]);
+    }
+}
+
+/* A message with an entry of 100 of panels 0 and 4, and of 60 of panel 5. */
+#define BORDERS(source, deadline) \
+    "445259 0001 " source " " deadline " 0000000000000031 00000064 00000064 0000003c 00"
+#define FROM_1_AT_BORDERS BORDERS("01", "000000c8")
+
+/* The barrier of panel 3: the entry of panel 0 is at that of the message, that of panel 4 above it,
+   that of panel 5 below it, and panel 6 has none in the message. Marks are the same, so the message
+   is ready when 60 has lapsed. */
+#define OF_BORDERS {{0, 100}, {4, 101}, {5, 50}, {6, 70}}
+
+static const Record before_borders = {
+    .time = 60, .high = 101, .marks = OF_BORDERS, .barrier = OF_BORDERS};
+
+static const Step handed_at_once[] = {
+    {__LINE__, CLOCK, .at = 3, .value = 61,
+     .record = {.time = 61, .high = 101, .marks = OF_BORDERS, .barrier = OF_BORDERS}},
+    {__LINE__, RECEIVE, .at = 3, .bytes = FROM_1_AT_BORDERS, .broken = true,
+     .number = PANEL_REFUSED_RECORD_BROKEN},
+    {__LINE__, RECEIVE, .at = 3, .bytes = FROM_1_AT_BORDERS, .output_more = -1,
+     .number = PANEL_REFUSED_BUFFER_SHORT},
+    {__LINE__, RECEIVE, .at = 3, .bytes = FROM_1_AT_BORDERS "00",
+     .number = PANEL_REFUSED_FRAME_LEFT_OVER},
+    {__LINE__, RECEIVE, .at = 3, .bytes = BORDERS("03", "000000c8"),
+     .number = PANEL_REFUSED_OWN_SOURCE},
+    {__LINE__, RECEIVE, .at = 3, .bytes = BORDERS("01", "0012753e"),
+     .number = PANEL_REFUSED_TOO_FAR_AHEAD},
+    {__LINE__, RECEIVE, .at = 3, .bytes = BORDERS("04", "00000065"),
+     .number = PANEL_REFUSED_HAD_ALREADY},
+    {__LINE__, RECEIVE, .at = 3, .bytes = FROM_1_AT_BORDERS, .log = {"01 000000c8 00"},
+     .record = {.time = 61, .high = 200, .marks = {{0, 100}, {1, 200}, {4, 101}, {5, 50}, {6, 70}},
+                .barrier = {{1, 200}, {4, 101}, {6, 70}}}},
+    /* the next of panel 1 names the one that was handed */
+    {__LINE__, RECEIVE, .at = 3, .bytes = "445259 0001 01 0000012c 0000000000000002 000000c8 00",
+     .log = {"01 0000012c 00"},
+     .record = {.time = 61, .high = 300, .marks = {{0, 100}, {1, 300}, {4, 101}, {5, 50}, {6, 70}},
+                .barrier = {{1, 300}, {4, 101}, {6, 70}}}},
+};
+
+/* It waits, and is handed by settling: 60 lapses, or the message of panel 5 comes in. */
+static const Step waits_first = {
+    __LINE__, RECEIVE, .at = 3, .bytes = FROM_1_AT_BORDERS,
+    .record = {.time = 60, .high = 101, .marks = OF_BORDERS, .barrier = OF_BORDERS,
+               .waiting = {FROM_1_AT_BORDERS}}};
+
+static const Step handed_by_settling[] = {
+    {__LINE__, CLOCK, .at = 3, .value = 61, .log = {"01 000000c8 00"},
+     .record = {.time = 61, .high = 200, .marks = {{0, 100}, {1, 200}, {4, 101}, {5, 50}, {6, 70}},
+                .barrier = {{1, 200}, {4, 101}, {6, 70}}}},
+    {__LINE__, RECEIVE, .at = 3, .bytes = "445259 0001 05 0000003c 0000000000000000 00",
+     .log = {"05 0000003c 00", "01 000000c8 00"},
+     .record = {.time = 60, .high = 200, .marks = {{0, 100}, {1, 200}, {4, 101}, {5, 60}, {6, 70}},
+                .barrier = {{1, 200}, {4, 101}, {6, 70}}}},
+    /* or it is dropped */
+    {__LINE__, CLOCK, .at = 3, .value = 201,
+     .record = {.time = 201, .high = 101, .marks = OF_BORDERS, .barrier = OF_BORDERS}},
+};
+
+static void borders(void)
+{
+    start("handed at once");
+    panels[3] = panel_of(3, &before_borders);
+    for (size_t i = 0; i < sizeof handed_at_once / sizeof handed_at_once[0]; i++)
+        step(&handed_at_once[i]);
+    part = "handed by settling";
+    for (size_t i = 0; i < sizeof handed_by_settling / sizeof handed_by_settling[0]; i++) {
+        panels[3] = panel_of(3, &before_borders);
+        step(&waits_first);
+        step(&handed_by_settling[i]);
+    }
+}
+
+/* Marks or barrier entries: 100 of each panel of a mask, and 1000 of panel 20. */
+static void put_dues(Due *dues, uint64_t mask)
+{
+    for (uint8_t s = 0; s < PANEL_PANELS; s++) {
+        if (s == 20)
+            *dues++ = (Due){20, 1000};
+        else if ((mask >> s & 1) != 0)
+            *dues++ = (Due){s, 100};
+    }
+}
+
+/* Panel 2 has an entry of 100 of each panel, and takes a message that names those of a mask. */
+static void removed(uint64_t mask)
+{
+    static char frame[2 * PANEL_FRAME_MAX + PANEL_PANELS + 16];
+    Step s = {__LINE__, RECEIVE, .at = 2, .bytes = frame, .log = {"14 000003e8 00"},
+              .record = {.high = 1000}};
+    Panel p = panel_of(2, &(Record){.high = 100});
+
+    for (size_t i = 0; i < PANEL_PANELS; i++)
+        p.marks[i] = p.barrier[i] = 100;
+    put_entries(frame, sizeof frame, mask);
+    put_dues(s.record.marks, UINT64_MAX);
+    put_dues(s.record.barrier, ~mask);
+    call(&s, &p);
+}
+
+/* One of them, all but one, and all. */
+static void each_panel_removed(void)
+{
+    part = "entries removed of each panel";
+    for (unsigned s = 0; s < PANEL_PANELS; s++) {
+        removed((uint64_t)1 << s);
+        removed(~((uint64_t)1 << s));
+    }
+    removed(UINT64_MAX);
+}
+
+static void shorter_barriers(void)
+{
+    RUN("the busy yard", busy_yard);
+    old_and_new(NOTE_2);
+    old_and_new(NOTE_2_OLD);
+    borders();
+    each_panel_removed();
 }
 
 /* ---- Refusals ---- */
@@ -1192,16 +1393,6 @@ static void full_traces(void)
     check_trace(__LINE__, &panels[7], full.bytes, (PanelTrace){22, false, 1});
 }
 
-/* A frame with an entry of 100 of each panel of a mask. */
-static void put_entries(char *text, size_t size, uint64_t mask)
-{
-    size_t end = (size_t)snprintf(text, size, "445259 0001 14 000003e8 %016llx",
-                                  (unsigned long long)mask);
-    for (; mask != 0; mask &= mask - 1)
-        end += (size_t)snprintf(text + end, size - end, " 00000064");
-    snprintf(text + end, size - end, " 00");
-}
-
 /* The entry of each panel alone, and with those of all others, the lower ones of which are met. */
 static void each_panel_traced(void)
 {
@@ -1422,6 +1613,7 @@ void test_calls(void)
     RUN("sent far ahead", sent_far_ahead);
     already_far_ahead();
     farthest_deadlines();
+    shorter_barriers();
     RUN("order of send", send_order);
     beacon_order();
     RUN("order of clock", clock_order);

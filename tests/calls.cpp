@@ -103,6 +103,28 @@ static void far_ahead()
     CHECK(panel_log_record(output, PANEL_LOG_RECORD, 0).deadline == deadline);
 }
 
+// Panels 0 to 3 of a busy yard: each takes the notes before it and sends one, which names the last
+// of them alone.
+static void busy_yard()
+{
+    static Panel panels[4];
+    uint8_t notes[4][PANEL_FRAME_MAX];
+    size_t lengths[4];
+    const uint8_t nothing = 0;
+
+    for (uint8_t own = 0; own < 4; own++) {
+        Panel *panel = &panels[own];
+        CHECK(panel_fresh(panel, own) == PANEL_ACCEPTED);
+        for (int i = 0; i < own; i++)
+            CHECK(panel_receive(panel, notes[i], lengths[i], output, sizeof output).count == 1);
+        PanelAnswer sent = panel_send(panel, &nothing, 0, uint16_t(100 * (own + 1)), output,
+                                      sizeof output, notes[own], sizeof notes[own]);
+        CHECK(sent.number == PANEL_ACCEPTED && sent.length == (own == 0 ? 19 : 23));
+        CHECK(notes[own][17] == (own == 0 ? 0 : 1 << (own - 1))); // the lowest byte of the mask
+        lengths[own] = sent.length;
+    }
+}
+
 int main()
 {
     uint8_t bytes[2 + PANEL_FRAME_MAX] = {0, 21}, sent[PANEL_FRAME_MAX];
@@ -118,6 +140,7 @@ int main()
     beacon();
     trace();
     far_ahead();
+    busy_yard();
     CHECK(panel_bundle_next(&bundle, &frame, &length) == PANEL_BUNDLE_END && length == 0);
     CHECK(std::strcmp(panel_number_text(PANEL_REFUSED_LAPSED), "the message has lapsed") == 0);
     return EXIT_SUCCESS;

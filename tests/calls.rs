@@ -128,6 +128,30 @@ fn far_ahead() -> Result<(), Refusal> {
     Ok(())
 }
 
+/// Panels 0 to 3 of a busy yard: each takes the notes before it and sends one, which names the last
+/// of them alone. The last stays the same where the third comes from an old panel, and first.
+fn shorter_barriers() -> Result<(), Refusal> {
+    let mut notes: Vec<Vec<u8>> = Vec::new();
+    for own in 0..4 {
+        let mut panel = Panel::fresh(own)?;
+        for note in &notes {
+            assert_eq!(panel.receive(note)?.len(), 1);
+        }
+        let (sent, _) = panel.send(b"", 100 * u16::from(own + 1))?;
+        notes.push(sent.to_vec());
+    }
+    assert_eq!(notes[0], frame(0, 100, 0, &[]));
+    assert_eq!(notes[1], frame(1, 200, 1, &[100]));
+    assert_eq!(notes[2], frame(2, 300, 2, &[200]));
+    assert_eq!(notes[3], frame(3, 400, 4, &[300]));
+    let mut three = Panel::fresh(3)?;
+    assert!(three.receive(&frame(2, 300, 3, &[100, 200]))?.is_empty());
+    assert!(three.receive(&notes[1])?.is_empty());
+    assert_eq!(three.receive(&notes[0])?.len(), 3);
+    assert_eq!(three.send(b"", 400)?.0[..], notes[3]);
+    Ok(())
+}
+
 /// 32 wait for a message of panel 1; the 33rd is refused, and then all are handed by one call.
 fn full_list() -> Result<(), Refusal> {
     let mut seven = Panel::fresh(7)?;
@@ -211,6 +235,7 @@ fn main() -> Result<(), Refusal> {
     receives()?;
     refusals()?;
     far_ahead()?;
+    shorter_barriers()?;
     full_list()?;
     traces()?;
     logs();

@@ -31,11 +31,16 @@ def bundle(*frames):
 DUE, NEXT_DUE, LATER_DUE = 7300, 7301, 7400
 
 # Panel 3 holds a batch; panel 5, which has read that, reports the moisture; panel 3, which has read
-# that, lifts the hold. They come in the wrong order, with a damaged copy and one more copy.
+# that, lifts the hold, and names the moisture alone, as that names the batch (document 02, W-204).
+# They come in the wrong order, with a damaged copy and one more copy.
 HOLD = frame(3, DUE, payload=b"hold batch 6")
 MOISTURE = frame(5, NEXT_DUE, {3: DUE}, b"moisture 19")
-LIFTED = frame(3, LATER_DUE, {3: DUE, 5: NEXT_DUE}, b"hold lifted")
+LIFTED = frame(3, LATER_DUE, {5: NEXT_DUE}, b"hold lifted")
 HARVEST = bundle(LIFTED, MOISTURE, b"DRX" + HOLD[3:], HOLD, MOISTURE)
+
+# A chain of four panels, each of which has read all before it. Panel 3 is an old one, whose frame names both of them; panel 4 is a
+# new one, whose frame names the last alone. They come in the wrong order.
+OLD_AND_NEW = bundle(frame(4, 400, {3: 300}), frame(3, 300, {1: 100, 2: 200}), frame(2, 200, {1: 100}), frame(1, 100))
 
 # Bench cases 1 and 2 of document 01, with the deadlines of document 02, W-203.
 FIRST = frame(3, DUE, payload=b"OK")
@@ -84,6 +89,7 @@ MANY_LINES = "".join(f"frame {i} taken\nhand 1 {i} -\n" for i in MANY) + "frame 
 FILES = {
     "crates/list/stdin": bundle(SECOND, FIRST),
     "tests/list/harvest.in": HARVEST,
+    "tests/list/old_and_new.in": OLD_AND_NEW,
     "tests/list/empty.in": b"",
     "tests/list/one_byte.in": b"\0",
     "tests/list/broken.in": bundle(FIRST, SECOND) + struct.pack(">H", 500) + FIRST,

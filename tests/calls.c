@@ -279,14 +279,19 @@ static void start(const char *name)
     }
 }
 
-static void run(const char *name, const Step *steps, size_t count)
+/* Where a record is given, panel 3 has that. */
+static void run_from(const char *name, const Record *record, const Step *steps, size_t count)
 {
     start(name);
+    if (record != NULL)
+        panels[3] = panel_of(3, record);
     for (size_t i = 0; i < count; i++)
         step(&steps[i]);
 }
 
-#define RUN(name, steps) run(name, steps, sizeof steps / sizeof steps[0])
+#define COUNT(list) (sizeof list / sizeof list[0])
+#define RUN(name, steps) run_from(name, NULL, steps, COUNT(steps))
+#define RUN_FROM(name, record, steps) run_from(name, record, steps, COUNT(steps))
 
 /* ---- Messages ---- */
 
@@ -591,7 +596,7 @@ static void beacon_after_a_note(void)
         .log = {"03 00001c85 00"},
         .record = {.time = 100, .high = 7301, .marks = {{3, 7301}}, .barrier = {{3, 7301}}}};
 
-    run("a beacon after case 1", cases_1_and_2, 2);
+    run_from("a beacon after case 1", NULL, cases_1_and_2, 2);
     step(&beacon);
 }
 
@@ -625,7 +630,7 @@ static void same_as_send(int line, const Panel *panel)
     Step send = {.line = line, .call = SEND, .value = PANEL_LIFETIME_BEACON};
     Step beacon = {.line = line, .call = BEACON};
 
-    for (size_t i = 0; i < sizeof payloads / sizeof payloads[0]; i++) {
+    for (size_t i = 0; i < COUNT(payloads); i++) {
         send.bytes = beacon.bytes = payloads[i];
         for (int less = 0; less < 4; less++) {
             send.output_more = beacon.output_more = -(less % 2);
@@ -642,7 +647,7 @@ static void beacon_as_a_send(void)
     static const Step default_lifetime = {__LINE__, SEND, .bytes = "4f4b",
                                           .value = PANEL_LIFETIME_DEFAULT};
 
-    run("a beacon as a send", cases_1_and_2, 2);
+    run_from("a beacon as a send", NULL, cases_1_and_2, 2);
     same_as_send(__LINE__, &panels[5]); /* fresh */
     same_as_send(__LINE__, &panels[3]); /* after case 1 */
     fill();
@@ -786,14 +791,9 @@ static const Step far_ahead_handed[] = {
 
 static void already_far_ahead(void)
 {
-    start("far ahead already");
-    panels[3] = panel_of(3, &far_ahead_taken);
-    for (size_t i = 0; i < sizeof far_ahead_stays / sizeof far_ahead_stays[0]; i++)
-        step(&far_ahead_stays[i]);
-    for (size_t i = 0; i < sizeof far_ahead_handed / sizeof far_ahead_handed[0]; i++) {
-        panels[3] = panel_of(3, &far_ahead_taken);
-        step(&far_ahead_handed[i]);
-    }
+    RUN_FROM("far ahead already", &far_ahead_taken, far_ahead_stays);
+    for (size_t i = 0; i < COUNT(far_ahead_handed); i++)
+        run_from("far ahead already", &far_ahead_taken, &far_ahead_handed[i], 1);
 }
 
 /* Panel 2 at a time receives a message of panel 1 with a deadline. */
@@ -821,7 +821,7 @@ static void farthest_deadlines(void)
                                      4294967295};
 
     part = "the farthest deadlines";
-    for (size_t i = 0; i < sizeof times / sizeof times[0]; i++) {
+    for (size_t i = 0; i < COUNT(times); i++) {
         uint32_t time = times[i], last = 4294967295;
         bool far = last - time > PANEL_FARTHEST_AHEAD;
         if (far) {
@@ -894,16 +894,31 @@ static void old_and_new(const char *note_2)
 
     for (size_t i = 0; i < 3; i++)
         put_bytes(expected + i * PANEL_LOG_RECORD, records[i]);
-    for (size_t order = 0; order < sizeof orders / sizeof orders[0]; order++) {
+    for (size_t order = 0; order < COUNT(orders); order++) {
         size_t length = 0;
         start("old and new panels");
         for (size_t i = 0; i < 3; i++)
             length += log_received(notes[orders[order][i]], log + length);
         same_number(__LINE__, "length of the log", length, sizeof expected);
         same_bytes(__LINE__, "log", log, expected, sizeof expected, 0);
-        step(&busy_yard[sizeof busy_yard / sizeof busy_yard[0] - 1]);
+        step(&busy_yard[COUNT(busy_yard) - 1]);
     }
 }
+
+/* Panel 3 with a record of an older version, after the first two notes: the entry that the second
+   did not remove goes into the next frame. */
+static const Record of_older_version = {
+    .high = 200, .marks = {{0, 100}, {1, 200}}, .barrier = {{0, 100}, {1, 200}}};
+
+static const Step from_older_version[] = {
+    {__LINE__, RECEIVE, .at = 3, .bytes = NOTE_2, .log = {"02 0000012c 00"},
+     .record = {.high = 300, .marks = {{0, 100}, {1, 200}, {2, 300}},
+                .barrier = {{0, 100}, {2, 300}}}},
+    {__LINE__, SEND, .at = 3, .bytes = "", .value = 400, .log = {"03 00000190 00"},
+     .frame = "445259 0001 03 00000190 0000000000000005 00000064 0000012c 00",
+     .record = {.high = 400, .marks = {{0, 100}, {1, 200}, {2, 300}, {3, 400}},
+                .barrier = {{3, 400}}}},
+};
 
 /* A message with an entry of 100 of panels 0 and 4, and of 60 of panel 5. */
 #define BORDERS(source, deadline) \
@@ -964,14 +979,9 @@ static const Step handed_by_settling[] = {
 
 static void borders(void)
 {
-    start("handed at once");
-    panels[3] = panel_of(3, &before_borders);
-    for (size_t i = 0; i < sizeof handed_at_once / sizeof handed_at_once[0]; i++)
-        step(&handed_at_once[i]);
-    part = "handed by settling";
-    for (size_t i = 0; i < sizeof handed_by_settling / sizeof handed_by_settling[0]; i++) {
-        panels[3] = panel_of(3, &before_borders);
-        step(&waits_first);
+    RUN_FROM("handed at once", &before_borders, handed_at_once);
+    for (size_t i = 0; i < COUNT(handed_by_settling); i++) {
+        run_from("handed by settling", &before_borders, &waits_first, 1);
         step(&handed_by_settling[i]);
     }
 }
@@ -1019,6 +1029,7 @@ static void shorter_barriers(void)
     RUN("the busy yard", busy_yard);
     old_and_new(NOTE_2);
     old_and_new(NOTE_2_OLD);
+    RUN_FROM("a record of an older version", &of_older_version, from_older_version);
     borders();
     each_panel_removed();
 }
@@ -1049,7 +1060,7 @@ static const Step send_order[] = {
 static void beacon_order(void)
 {
     start("order of beacon");
-    for (size_t i = 0; i < sizeof send_order / sizeof send_order[0]; i++) {
+    for (size_t i = 0; i < COUNT(send_order); i++) {
         Step s = send_order[i];
         if (s.call == SEND)
             s.call = BEACON;
@@ -1136,14 +1147,6 @@ static const Step far_order[] = {
     {__LINE__, RECEIVE, .at = 3, .bytes = FROM_1_DUE_1209700, .number = PANEL_REFUSED_HAD_ALREADY},
 };
 
-static void receive_far_order(void)
-{
-    start("order of receive, far ahead");
-    panels[3] = panel_of(3, &far_ahead_taken);
-    for (size_t i = 0; i < sizeof far_order / sizeof far_order[0]; i++)
-        step(&far_order[i]);
-}
-
 /* With a full list: 20, 32 and 22 before 23. A message that has lapsed is ready: never 21 and
    23. */
 static void full_order(void)
@@ -1181,7 +1184,7 @@ static void refused_as_broken(int line, const Panel *p)
         {.call = RECEIVE, .bytes = FROM_1_DUE_700, .number = PANEL_REFUSED_RECORD_BROKEN},
         {.call = CLOCK, .value = 0, .number = PANEL_REFUSED_RECORD_BROKEN},
     };
-    for (size_t i = 0; i < sizeof calls / sizeof calls[0]; i++) {
+    for (size_t i = 0; i < COUNT(calls); i++) {
         Step s = calls[i];
         s.line = line;
         call(&s, p);
@@ -1371,7 +1374,7 @@ static const struct {
 static void hand_written_traces(void)
 {
     part = "traces";
-    for (size_t i = 0; i < sizeof traces / sizeof traces[0]; i++) {
+    for (size_t i = 0; i < COUNT(traces); i++) {
         PanelTrace expected = traces[i].answer;
         Panel p = panel_of(2, &traces[i].record);
         check_trace(traces[i].line, &p, traces[i].frame, expected);
@@ -1472,7 +1475,7 @@ static void damaged_frames(void)
     start("frames");
     Panel broken = panels[9];
     broken.own = PANEL_PANELS;
-    for (size_t i = 0; i < sizeof frames / sizeof frames[0]; i++) {
+    for (size_t i = 0; i < COUNT(frames); i++) {
         size_t length = put_bytes(bytes, frames[i].bytes);
         uint8_t *copy = copy_of(bytes, length);
         same_number(frames[i].line, "frame check", panel_frame_check(copy, length),
@@ -1618,7 +1621,7 @@ void test_calls(void)
     beacon_order();
     RUN("order of clock", clock_order);
     RUN("order of receive", receive_order);
-    receive_far_order();
+    RUN_FROM("order of receive, far ahead", &far_ahead_taken, far_order);
     full_order();
     broken_records();
     whole_record();

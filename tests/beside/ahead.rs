@@ -9,7 +9,7 @@ use crate::compare::Both;
 use crate::compose::frame;
 use crate::kept::Kept;
 use crate::second::{listing, FRAME, OUTPUT};
-use crate::side::{Found, Side};
+use crate::side::Found;
 use crate::stays;
 use crate::traces::{answers, panel, Entries, Expected};
 use std::path::Path;

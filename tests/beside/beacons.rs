@@ -7,7 +7,7 @@ use crate::compare::{Both, Pair};
 use crate::compose::frame;
 use crate::kept::Kept;
 use crate::second::{Answer, FRAME, OUTPUT};
-use crate::side::{Found, Side};
+use crate::side::Found;
 
 /// Makes a call; of a beacon, the send on an equal panel too, which has to answer the same.
 pub fn call(both: &mut Both, pair: &mut Pair, call: &Call) -> Result<Answer, Found> {

@@ -6,7 +6,7 @@ use crate::calls::Call;
 use crate::compare::{Both, Pair};
 use crate::compose::{deadline_of, frame};
 use crate::second::{listing, LOG_RECORD, OUTPUT};
-use crate::side::{Found, Side};
+use crate::side::Found;
 use crate::traces;
 use std::path::Path;
 

@@ -10,10 +10,10 @@ use crate::room::Room;
 use crate::same::{all_zero, foretold, same_answer, same_number, same_records};
 use crate::same::{unchanged, untouched};
 use crate::script::{Script, Start};
-use crate::second::{self, Answer};
-use crate::side::{call_second, Found, Side};
+use crate::second::{self, Answer, Make};
+use crate::side::{call_second, Found};
 
-/// A panel in both implementations, and what was done with it.
+/// A panel of the new make in both implementations, and what was done with it.
 #[derive(Clone)]
 pub struct Pair {
     pub module: Box<Record>,
@@ -46,14 +46,7 @@ impl Both {
 
     /// A panel that starts with a kept record.
     pub fn kept(&mut self, kept: &Kept) -> Pair {
-        let numbers = (kept.own, kept.time, kept.high);
-        let second = second::Panel::kept(
-            numbers,
-            &kept.marks,
-            &kept.barrier,
-            kept.count,
-            &kept.frames,
-        );
+        let second = kept.second(Make::New);
         Pair {
             module: Record::kept(kept, &mut self.random),
             broken: second.broken(),
@@ -132,18 +125,14 @@ impl Both {
             false => same_records(&pair.module, &pair.second),
         }
     }
-}
-
-impl Side for Both {
-    type Panel = Pair;
 
     /// Asks both for a fresh panel, and compares number and record. The module makes it of a record
     /// of random bytes.
-    fn fresh(&mut self, number: u8) -> Result<Pair, Found> {
+    pub fn fresh(&mut self, number: u8) -> Result<Pair, Found> {
         let mut module = Record::random(&mut self.random);
         self.before.clone_from(&module);
         let by_module = module.fresh(number);
-        let (second, by_second) = second::fresh(number);
+        let (second, by_second) = second::fresh(number, Make::New);
         self.counts.fresh(by_module);
         let same = same_number("number", u64::from(by_module), u64::from(by_second))
             .and_then(|()| untouched(&self.before, &module))
@@ -162,8 +151,9 @@ impl Side for Both {
     }
 
     /// Makes a call, and a trace before each receive. The trace needs no line in the script, as it
-    /// is made again with the receive.
-    fn call(&mut self, pair: &mut Pair, call: &Call) -> Result<Answer, Found> {
+    /// is made again with the receive. What the call left in the lent buffers is then in `output` and
+    /// `frame`.
+    pub fn call(&mut self, pair: &mut Pair, call: &Call) -> Result<Answer, Found> {
         pair.script.calls.push(call.clone());
         self.before.clone_from(&pair.module);
         self.room.lend(call, &mut self.random);
@@ -174,15 +164,16 @@ impl Side for Both {
         }
     }
 
-    fn output(&self) -> &[u8] {
+    pub fn output(&self) -> &[u8] {
         self.room.output()
     }
 
-    fn frame(&self) -> &[u8] {
+    pub fn frame(&self) -> &[u8] {
         self.room.frame()
     }
 
-    fn script(&self, pair: &Pair) -> Option<Script> {
+    /// The calls on a panel so far.
+    pub fn script(&self, pair: &Pair) -> Option<Script> {
         Some(pair.script.clone())
     }
 }

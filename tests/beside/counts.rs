@@ -24,8 +24,9 @@ const ASKED: [(&str, &[u8]); 7] = [
 ];
 /// How many visits are counted apart; more are counted with the last.
 const VISITS: usize = 4;
-/// With so many calls of lists, messages have to have been sent far ahead and taken after a 32.
-const FAR_AHEAD_CALLS: u64 = 100_000;
+/// With so many calls of lists, messages have to have been sent far ahead and taken after a 32,
+/// both makes have to have shared a list, and frames to have been shorter than a shadow's.
+const MANY_CALLS: u64 = 100_000;
 
 #[derive(Default)]
 pub struct Counts {
@@ -43,6 +44,12 @@ pub struct Counts {
     tests: [[u64; VISITS]; 2],
     most_visited: usize,
     lists: Done,
+    /// Calls beside a shadow, frames that were sent by them, and of these how many were shorter
+    /// than the shadow's, and by how many bytes.
+    shadowed: u64,
+    beside_shadow: u64,
+    shorter: u64,
+    bytes_less: u64,
     pub bundle_steps: u64,
     pub log_reads: u64,
     pub listings: u64,
@@ -83,6 +90,14 @@ impl Counts {
         }
     }
 
+    /// Counts a call beside a shadow, whose frame has so many bytes more.
+    pub fn shadow(&mut self, answer: Answer, bytes_less: usize) {
+        self.shadowed += 1;
+        self.beside_shadow += u64::from(answer.length > 0);
+        self.shorter += u64::from(bytes_less > 0);
+        self.bytes_less += bytes_less as u64;
+    }
+
     fn count(&mut self, asked: usize, number: u8) {
         *self.answered[asked].entry(number).or_default() += 1;
     }
@@ -103,12 +118,22 @@ impl Counts {
     /// they have none, and what else should have come up.
     pub fn wrong(&self) -> Vec<String> {
         let mut wrong = self.missing_tests();
-        if self.lists.calls >= FAR_AHEAD_CALLS && self.lists.sent_far_ahead == 0 {
-            wrong.push("no list sent a message far ahead".to_string());
-        }
-        if self.lists.calls >= FAR_AHEAD_CALLS && self.lists.taken_later == 0 {
-            wrong.push("no list took a message that 32 had refused".to_string());
-        }
+        let of_lists = [
+            (
+                self.lists.sent_far_ahead,
+                "no list sent a message far ahead",
+            ),
+            (
+                self.lists.taken_later,
+                "no list took a message that 32 had refused",
+            ),
+            (self.lists.mixed, "no list had panels of both makes"),
+            (self.shorter, "no frame was shorter than a shadow's"),
+        ];
+        let never = of_lists
+            .iter()
+            .filter(|(count, _)| self.lists.calls >= MANY_CALLS && *count == 0);
+        wrong.extend(never.map(|(_, words)| words.to_string()));
         for ((name, numbers), answered) in ASKED.iter().zip(&self.answered) {
             let missing = numbers
                 .iter()
@@ -156,7 +181,7 @@ impl Counts {
     }
 
     /// The counts below the table.
-    fn rows(&self) -> [(u64, &'static str); 23] {
+    fn rows(&self) -> [(u64, &'static str); 29] {
         let spoken = self.lists.spoken;
         let visited = |visits: usize| self.tests[0][visits] + self.tests[1][visits];
         [
@@ -166,6 +191,12 @@ impl Counts {
             ),
             (self.lists.calls, "of them in lists"),
             (self.lists.lists, "lists"),
+            (self.lists.mixed, "of them with panels of both makes"),
+            (self.lists.old_calls, "calls on panels of the old make"),
+            (self.shadowed, "calls beside a shadow of the old make"),
+            (self.beside_shadow, "frames sent by them"),
+            (self.shorter, "of them shorter than the shadow's"),
+            (self.bytes_less, "bytes that these have less"),
             (self.records, "log records"),
             (self.waited, "messages that waited"),
             (self.several, "calls that handed several messages"),

@@ -6,7 +6,7 @@ use crate::compose;
 use crate::member::Member;
 use crate::plan::{Order, Plan};
 use crate::random::Random;
-use crate::second::{Answer, FARTHEST_AHEAD, FRAME, OUTPUT};
+use crate::second::{Answer, Make, FARTHEST_AHEAD, FRAME, OUTPUT};
 use crate::side::{Found, Side};
 
 pub struct Farm<'side, S: Side> {
@@ -18,6 +18,8 @@ pub struct Farm<'side, S: Side> {
     pub frames: Vec<Vec<u8>>,
     pub claims: Claims,
     pub calls: usize,
+    /// Calls on panels of the old make.
+    pub old_calls: u64,
     pub claim_checks: u64,
     /// Messages sent that were far ahead at their panel.
     pub sent_far_ahead: u64,
@@ -31,10 +33,10 @@ impl<'side, S: Side> Farm<'side, S> {
         let mut numbers: Vec<u8> = (0..64).collect();
         random.shuffle(&mut numbers);
         let mut members = Vec::new();
-        for number in numbers.into_iter().take(plan.panels) {
-            let panel = side.fresh(number)?;
+        for (number, kind) in numbers.into_iter().zip(plan.kinds(&mut random)) {
+            let panel = side.fresh(number, kind)?;
             let clock = plan.clocks.first_reading(&mut random);
-            members.push(Member::new(panel, number, clock));
+            members.push(Member::new(panel, number, kind.make(), clock));
         }
         let claims = Claims::new(members.len());
         Ok(Farm {
@@ -45,6 +47,7 @@ impl<'side, S: Side> Farm<'side, S> {
             frames: Vec::new(),
             claims,
             calls: 0,
+            old_calls: 0,
             claim_checks: 0,
             sent_far_ahead: 0,
             taken_later: 0,
@@ -56,6 +59,7 @@ impl<'side, S: Side> Farm<'side, S> {
         let member = &mut self.members[place];
         let answer = self.side.call(&mut member.panel, call)?;
         self.calls += 1;
+        self.old_calls += u64::from(member.make == Make::Old);
         if self.plan.lawful {
             let (output, frame) = (self.side.output(), self.side.frame());
             self.claims.after(place, call, answer, output, frame);
@@ -88,7 +92,8 @@ impl<'side, S: Side> Farm<'side, S> {
         self.claim_checks += 1;
         self.claims.check().map_err(|(what, place)| {
             let member = &self.members[place];
-            let what = format!("demand 3, panel {}: {what}", member.number);
+            let (number, make) = (member.number, member.make);
+            let what = format!("demand 3, panel {number} of the make {make:?}: {what}");
             Found::new(what).with(self.side.script(&member.panel))
         })
     }

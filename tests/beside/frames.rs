@@ -7,7 +7,7 @@ use crate::compose;
 use crate::module;
 use crate::random::Random;
 use crate::second::{Message, FARTHEST_AHEAD};
-use crate::side::{Found, Side};
+use crate::side::Found;
 
 /// Bytes of the longest random frame.
 const LONGEST: usize = 400;

@@ -2,6 +2,7 @@
 //! is a line that `--replay` reads.
 
 use crate::hexadecimal;
+use crate::second::{Make, Panel};
 use std::fmt;
 
 #[derive(Clone, Debug)]
@@ -51,6 +52,13 @@ impl Kept {
             count: 0,
             frames: Vec::new(),
         }
+    }
+
+    /// The record in the second implementation, at a panel of this make.
+    pub fn second(&self, make: Make) -> Panel {
+        let numbers = (self.own, self.time, self.high);
+        let (marks, barrier) = (&self.marks, &self.barrier);
+        Panel::kept(make, numbers, marks, barrier, self.count, &self.frames)
     }
 
     /// Reads the text of a record.

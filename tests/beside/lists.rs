@@ -22,6 +22,9 @@ pub struct Done {
     /// Messages sent far ahead, and messages taken that had been refused as far ahead.
     pub sent_far_ahead: u64,
     pub taken_later: u64,
+    /// Lists in which calls were made on panels of both makes, and calls on panels of the old make.
+    pub mixed: u64,
+    pub old_calls: u64,
 }
 
 /// Makes lists until so many calls are made. If all are to be lawful, each keeps to the condition
@@ -43,6 +46,8 @@ pub fn run<S: Side>(side: &mut S, seed: u64, calls: u64, all_lawful: bool) -> Re
         done.spoken.messages += spoken.messages;
         done.spoken.waiting += spoken.waiting;
         done.calls += farm.calls as u64;
+        done.mixed += u64::from(0 < farm.old_calls && farm.old_calls < farm.calls as u64);
+        done.old_calls += farm.old_calls;
         done.claim_checks += farm.claim_checks;
         done.sent_far_ahead += farm.sent_far_ahead;
         done.taken_later += farm.taken_later;

@@ -2,6 +2,7 @@
 //! checks the claims of demand 3 on what the module wrote.
 
 mod ahead;
+mod barriers;
 mod beacons;
 mod bits;
 mod bundles;
@@ -17,6 +18,7 @@ mod hexadecimal;
 mod kept;
 mod lists;
 mod member;
+mod mixed;
 mod module;
 mod plan;
 mod random;
@@ -25,12 +27,15 @@ mod room;
 mod same;
 mod script;
 mod second;
+mod shadow;
 mod side;
 mod stays;
 mod traces;
 mod trials;
+mod yards;
 
 use compare::Both;
+use mixed::Mixed;
 use random::Random;
 use side::Found;
 use std::path::PathBuf;
@@ -38,10 +43,11 @@ use std::process::ExitCode;
 use std::{env, fs};
 
 const USAGE: &str = "\
-usage: beside [--seed N] [--calls N] [--list PATH] [--faults | --replay FILE]
+usage: beside [--seed N] [--calls N] [--list PATH] [--faults | --replay FILE | --barriers]
 
 Makes the same calls on the module and on a second implementation, and compares numbers, records
-and all bytes of the lent buffers; checks the claims of demand 3 on the logs that the module wrote.
+and all bytes of the lent buffers; checks the claims of demand 3 on the logs that the module wrote,
+and on those of panels of the old make that share its lists.
 
   --seed N       other random calls; 1 if not given
   --calls N      calls in lists, with which the other parts grow; 1000000 if not given
@@ -49,14 +55,23 @@ and all bytes of the lent buffers; checks the claims of demand 3 on the logs tha
   --faults       plants faults in the second implementation, one at a time, and fails if one goes
                  unnoticed
   --replay FILE  makes the calls of a file, as a difference prints them
+  --barriers     prints the table of docs/BARRIERS.md, without the module: how long frames are with
+                 panels of the old make and of the new make
 ";
+
+/// What is to be done.
+enum Task {
+    Compare,
+    Faults,
+    Replay(PathBuf),
+    Barriers,
+}
 
 struct Options {
     seed: u64,
     calls: u64,
     list: PathBuf,
-    faults: bool,
-    replay: Option<PathBuf>,
+    task: Task,
 }
 
 /// Reads the options, or gives none if they are wrong.
@@ -65,8 +80,7 @@ fn options() -> Option<Options> {
         seed: 1,
         calls: 1_000_000,
         list: PathBuf::from("target/bin/list"),
-        faults: false,
-        replay: None,
+        task: Task::Compare,
     };
     let mut arguments = env::args().skip(1);
     while let Some(argument) = arguments.next() {
@@ -74,8 +88,9 @@ fn options() -> Option<Options> {
             "--seed" => options.seed = arguments.next()?.parse().ok()?,
             "--calls" => options.calls = arguments.next()?.parse().ok()?,
             "--list" => options.list = PathBuf::from(arguments.next()?),
-            "--faults" => options.faults = true,
-            "--replay" => options.replay = Some(PathBuf::from(arguments.next()?)),
+            "--faults" => options.task = Task::Faults,
+            "--replay" => options.task = Task::Replay(PathBuf::from(arguments.next()?)),
+            "--barriers" => options.task = Task::Barriers,
             _ => return None,
         }
     }
@@ -93,6 +108,8 @@ fn compare_all(options: &Options, both: &mut Both) -> Result<(), Found> {
     cases::run(both, list).map_err(named)?;
     let named = part("ahead", "deadlines far ahead");
     ahead::run(both, list).map_err(named)?;
+    let named = part("barriers", "shorter barriers, at panels of both makes");
+    barriers::run(both).map_err(named)?;
     let named = part("bundles", "bundles at every place, and logs at every index");
     bundles::readers(both, seed, calls / 1_000 + 1).map_err(named)?;
     let named = part(
@@ -106,10 +123,12 @@ fn compare_all(options: &Options, both: &mut Both) -> Result<(), Found> {
     records::run(both, seed, calls / 25 + 1).map_err(named)?;
     let named = part(
         "lists",
-        "random lists of calls over 2 to 64 panels, with demand 3's claims",
+        "random lists of calls over 2 to 64 panels, of both makes in some, with demand 3's claims",
     );
-    let done = lists::run(both, seed, calls, false).map_err(named)?;
+    let mut mixed = Mixed::new(both, seed);
+    let done = lists::run(&mut mixed, seed, calls, false).map_err(named)?;
     both.counts.lists(&done);
+    print!("{}", both.counts.table());
     match (done.void, both.counts.wrong()) {
         (0, wrong) if wrong.is_empty() => Ok(()),
         (0, wrong) => Err(Found::new(wrong.join(", "))),
@@ -157,18 +176,14 @@ fn main() -> ExitCode {
         return ExitCode::from(2);
     };
     let mut both = Both::new(Random::new(options.seed, 0));
-    let result = match (&options.replay, options.faults) {
-        (Some(file), _) => replay(file, &mut both),
-        (None, true) => trials::run(options.seed, &options.list),
-        (None, false) => compare_all(&options, &mut both),
+    let result = match &options.task {
+        Task::Compare => compare_all(&options, &mut both),
+        Task::Faults => trials::run(options.seed, &options.list),
+        Task::Replay(file) => replay(file, &mut both),
+        Task::Barriers => yards::table().map(|table| print!("{table}")),
     };
     match result {
-        Ok(()) => {
-            if options.replay.is_none() && !options.faults {
-                print!("{}", both.counts.table());
-            }
-            ExitCode::SUCCESS
-        }
+        Ok(()) => ExitCode::SUCCESS,
         Err(found) => {
             print(found, options.seed);
             ExitCode::FAILURE

@@ -1,12 +1,13 @@
 //! The panels of a farm, each with what it needs to take part in a list.
 
 use crate::bits::Bits;
-use crate::second::FARTHEST_AHEAD;
+use crate::second::{Make, FARTHEST_AHEAD};
 
 /// A panel of the farm, with its clock and the frames that it can pass on.
 pub struct Member<Panel> {
     pub panel: Panel,
     pub number: u8,
+    pub make: Make,
     pub time: u32,
     /// What the panel's clock shows. It may go another way than that of other panels.
     pub clock: u32,
@@ -17,10 +18,11 @@ pub struct Member<Panel> {
 }
 
 impl<Panel> Member<Panel> {
-    pub fn new(panel: Panel, number: u8, clock: u32) -> Self {
+    pub fn new(panel: Panel, number: u8, make: Make, clock: u32) -> Self {
         Member {
             panel,
             number,
+            make,
             time: 0,
             clock,
             held: Vec::new(),

@@ -2,6 +2,7 @@
 
 use crate::random::Random;
 use crate::second::{BEACON_LIFETIME, DEFAULT_LIFETIME, FARTHEST_AHEAD};
+use crate::side::Kind;
 
 /// How far the clocks of the panels are apart.
 #[derive(Clone, Copy)]
@@ -88,6 +89,15 @@ impl Lifetimes {
     }
 }
 
+/// Of which make the panels are.
+#[derive(Clone, Copy)]
+pub enum Makes {
+    AllNew,
+    OneNew,
+    Half,
+    Any,
+}
+
 /// In which order frames are passed on.
 #[derive(Clone, Copy)]
 pub enum Order {
@@ -99,6 +109,9 @@ pub enum Order {
 #[derive(Clone, Copy)]
 pub struct Plan {
     pub panels: usize,
+    pub makes: Makes,
+    /// The panels of the new make have shadows.
+    pub shadows: bool,
     pub calls: usize,
     /// The list keeps to the condition of demand 3: frames received were sent in the list, or are
     /// refused.
@@ -143,9 +156,12 @@ fn calls(random: &mut Random) -> usize {
 impl Plan {
     pub fn any(random: &mut Random, lawful: bool) -> Plan {
         use Clocks::{Apart, Last, LastWeeks, Near, Weeks, Wide};
+        use Makes::{AllNew, Half, OneNew};
         use Order::{Any, NewestFirst, OldestFirst};
         let mut plan = Plan {
             panels: panels(random),
+            makes: random.pick(&[AllNew, AllNew, AllNew, OneNew, Half, Makes::Any]),
+            shadows: random.chance(30),
             calls: calls(random),
             lawful,
             clocks: random.pick(&[Near, Near, Apart, Apart, Wide, Last, Weeks, LastWeeks]),
@@ -159,13 +175,47 @@ impl Plan {
             held_back: random.chance(25),
             often: [30, 30, 15, 10, 0],
         };
-        if random.chance(20) {
-            plan.fills_up(random);
+        match random.below(5) {
+            0 => plan.fills_up(random),
+            1 => plan.spreads(random),
+            _ => {}
         }
         if !lawful {
+            // What is checked of old panels and of shadows is said of lawful lists only.
+            (plan.makes, plan.shadows) = (AllNew, false);
             plan.often[4] = random.pick(&[20, 100]);
         }
         plan
+    }
+
+    /// What each of the panels is.
+    pub fn kinds(&self, random: &mut Random) -> Vec<Kind> {
+        let new = match self.makes {
+            Makes::AllNew => self.panels,
+            Makes::OneNew => 1,
+            Makes::Half => self.panels / 2,
+            Makes::Any => random.below(self.panels + 1),
+        };
+        let kind = match self.shadows {
+            true => Kind::Shadowed,
+            false => Kind::New,
+        };
+        let mut kinds = vec![kind; new];
+        kinds.resize(self.panels, Kind::Old);
+        random.shuffle(&mut kinds);
+        kinds
+    }
+
+    /// A list in which messages spread: panels meet often and send rarely, so that a message is
+    /// handed at many panels before they send, and barriers grow long.
+    fn spreads(&mut self, random: &mut Random) {
+        self.panels = random.between(3, 12);
+        self.calls = self.calls.max(200);
+        self.clocks = random.pick(&[Clocks::Near, Clocks::Near, Clocks::Apart, Clocks::Wide]);
+        self.clock_step = random.pick(&[1, 3]);
+        self.lost = random.pick(&[0, 5, 30]);
+        self.most_passed = random.pick(&[8, 50]);
+        self.often = [15, 60, 10, 5, 0];
     }
 
     /// A list in which many messages wait: few panels send much and meet rarely, and pass the

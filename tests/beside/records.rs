@@ -8,7 +8,7 @@ use crate::compose;
 use crate::kept::Kept;
 use crate::random::Random;
 use crate::second::{FARTHEST_AHEAD, FRAME, OUTPUT, WAITING};
-use crate::side::{Found, Side};
+use crate::side::Found;
 
 /// The ways in which a record is broken.
 const WAYS: u64 = 14;

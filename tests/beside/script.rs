@@ -6,7 +6,7 @@ use crate::calls::Call;
 use crate::compare::{Both, Pair};
 use crate::kept::Kept;
 use crate::random::Random;
-use crate::side::{Found, Side};
+use crate::side::Found;
 use std::fmt;
 
 /// Calls that are made at most to find out which ones can be left out.

@@ -1,11 +1,11 @@
-//! What stands for the panels of a list: both implementations side by side (compare.rs), or the
-//! second alone, to see what the claims say of its planted faults.
+//! What stands for the panels of a list: both implementations (mixed.rs), or the second alone, to
+//! see what the claims say of its planted faults.
 
 use crate::calls::Call;
 use crate::random::Random;
 use crate::room::Room;
 use crate::script::Script;
-use crate::second::{self, Answer};
+use crate::second::{self, Answer, Make};
 use std::fmt;
 
 /// What a run ends with that found something: the difference or the claim that does not hold, where
@@ -38,10 +38,30 @@ impl Found {
     }
 }
 
+/// What a panel of a list is.
+#[derive(Clone, Copy, PartialEq, Eq)]
+pub enum Kind {
+    /// One of the old make.
+    Old,
+    /// One of the new make.
+    New,
+    /// One of the new make that is to have a shadow.
+    Shadowed,
+}
+
+impl Kind {
+    pub fn make(self) -> Make {
+        match self {
+            Kind::Old => Make::Old,
+            Kind::New | Kind::Shadowed => Make::New,
+        }
+    }
+}
+
 pub trait Side {
     type Panel;
 
-    fn fresh(&mut self, number: u8) -> Result<Self::Panel, Found>;
+    fn fresh(&mut self, number: u8, kind: Kind) -> Result<Self::Panel, Found>;
 
     /// Makes a call. What it left in the lent buffers is then in `output` and `frame`.
     fn call(&mut self, panel: &mut Self::Panel, call: &Call) -> Result<Answer, Found>;
@@ -66,7 +86,7 @@ pub fn call_second(panel: &mut second::Panel, call: &Call, room: &mut Room) -> A
     }
 }
 
-/// The second implementation alone.
+/// The second implementation alone, which has no shadows.
 pub struct Alone {
     random: Random,
     room: Room,
@@ -86,8 +106,8 @@ impl Alone {
 impl Side for Alone {
     type Panel = second::Panel;
 
-    fn fresh(&mut self, number: u8) -> Result<second::Panel, Found> {
-        Ok(second::fresh(number).0)
+    fn fresh(&mut self, number: u8, kind: Kind) -> Result<second::Panel, Found> {
+        Ok(second::fresh(number, kind.make()).0)
     }
 
     fn call(&mut self, panel: &mut second::Panel, call: &Call) -> Result<Answer, Found> {

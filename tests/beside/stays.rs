@@ -7,7 +7,7 @@ use crate::calls::Call;
 use crate::cases::{hands, is, refuses, Log};
 use crate::compare::{Both, Pair};
 use crate::compose::frame;
-use crate::side::{Found, Side};
+use crate::side::Found;
 use crate::traces::{answers, panel};
 
 pub fn run(both: &mut Both) -> Result<(), Found> {

@@ -6,7 +6,7 @@ use crate::compare::Both;
 use crate::compose::frame;
 use crate::kept::Kept;
 use crate::second::{Answer, Test};
-use crate::side::{Found, Side};
+use crate::side::Found;
 
 /// What a trace has to answer: number, ready and visited.
 pub type Expected = (u8, bool, usize);

@@ -1,10 +1,11 @@
 //! Whether the planted faults are noticed, and how.
 
 use crate::compare::Both;
+use crate::mixed::Mixed;
 use crate::random::Random;
 use crate::second::faults::{plant, Fault, FAULTS};
 use crate::side::{Alone, Found};
-use crate::{ahead, bundles, cases, frames, lists, records};
+use crate::{ahead, barriers, bundles, cases, frames, lists, records};
 use std::path::Path;
 use std::sync::atomic::{AtomicUsize, Ordering};
 use std::sync::Mutex;
@@ -36,6 +37,18 @@ const BREAK_DEMAND_3: &[Fault] = &[
     Fault::BarrierNotRaisedByOwn,
     Fault::LapsedEntriesStripped,
     Fault::OwnEntryLeftOut,
+    Fault::EntryOneAboveRemoved,
+    Fault::EntryAboveRemoved,
+    Fault::RemovedByTheMark,
+    Fault::RemovedByTheHighest,
+    Fault::RemovedByTheDeadline,
+    Fault::NotCarriedRemoved,
+    Fault::RemovedPlaceByPlace,
+    Fault::PlaceTakenForPanel,
+    Fault::LapsedEntriesRemoved,
+    Fault::WaitingRemoves,
+    Fault::OwnRemovedToo,
+    Fault::RemovedFromTheMarks,
     Fault::DeadlineByTheClockAlone,
     Fault::DeadlineNotAboveHigh,
     Fault::DeadlinePastLastSent,
@@ -58,6 +71,19 @@ const BREAK_DEMAND_3: &[Fault] = &[
     Fault::EntriesWrittenHighestPanelFirst,
 ];
 
+/// The faults of panels of the old make that break demand 3: the claims have to notice them where
+/// these panels share a farm with the module's.
+const BREAK_DEMAND_3_WHERE_MIXED: &[Fault] = &[
+    Fault::OldMakeRemovesByTheMark,
+    Fault::OldMakeDropsNotCarried,
+    Fault::OldMakeDropsTheLapsed,
+    Fault::OldMakeEmptiesAsItReceives,
+    Fault::OldMakeLeavesReceivedOut,
+    Fault::OldMakeKeepsTheHighest,
+    Fault::OldMakeHandsOnArrival,
+    Fault::OldMakeDoesNotSettle,
+];
+
 /// How a fault was noticed: the part, and after how many calls.
 struct Noticed {
     part: &'static str,
@@ -76,11 +102,12 @@ fn run_part(part: &str, long: u64, both: &mut Both, seed: u64, list: &Path) -> R
     match part {
         "cases" => cases::run(both, list),
         "ahead" => ahead::run(both, list),
+        "barriers" => barriers::run(both),
         "frames" => frames::run(both, seed, long),
         "records" => records::run(both, seed ^ long, long),
         "bundles" => bundles::readers(both, seed, long),
         "listings" => bundles::listings(both, seed, long, list),
-        _ => lists::run(both, seed, long, false).map(|_| ()),
+        _ => lists::run(&mut Mixed::new(both, seed), seed, long, false).map(|_| ()),
     }
 }
 
@@ -90,6 +117,7 @@ fn compared(fault: Option<Fault>, seed: u64, list: &Path) -> Option<Noticed> {
     let parts = [
         ("cases", 1),
         ("ahead", 1),
+        ("barriers", 1),
         ("frames", 1),
         ("bundles", 80),
         ("lists", 2_000),
@@ -118,6 +146,29 @@ fn claimed(fault: Option<Fault>, seed: u64) -> Option<u64> {
     found.err().map(|_| alone.calls)
 }
 
+/// Makes lists with both implementations, until a claim does not hold. The fault is one of old
+/// panels, which are compared with nothing here.
+fn claimed_where_mixed(fault: Option<Fault>, seed: u64) -> Option<u64> {
+    plant(fault);
+    let mut both = Both::new(Random::new(seed, 0));
+    let mut mixed = Mixed::new(&mut both, seed).without_shadows();
+    let found = lists::run(&mut mixed, seed, CLAIM_CALLS, true);
+    let calls = mixed.calls();
+    plant(None);
+    found.err().map(|_| calls)
+}
+
+/// After how many calls the claims notice a fault that breaks demand 3.
+fn claimed_if_breaking(fault: Fault, seed: u64) -> Option<u64> {
+    if BREAK_DEMAND_3.contains(&fault) {
+        return claimed(Some(fault), seed);
+    }
+    if BREAK_DEMAND_3_WHERE_MIXED.contains(&fault) {
+        return claimed_where_mixed(Some(fault), seed);
+    }
+    None
+}
+
 /// Tries the faults on several threads. The results are in the order of the faults.
 fn tried(seed: u64, list: &Path) -> Vec<Tried> {
     let next = AtomicUsize::new(0);
@@ -128,8 +179,7 @@ fn tried(seed: u64, list: &Path) -> Vec<Tried> {
             return;
         };
         let compared = compared(Some(fault), seed, list);
-        let breaks = BREAK_DEMAND_3.contains(&fault);
-        let claimed = breaks.then(|| claimed(Some(fault), seed)).flatten();
+        let claimed = claimed_if_breaking(fault, seed);
         let tried = Tried {
             fault,
             compared,
@@ -169,7 +219,8 @@ fn print(tried: &Tried) -> Vec<String> {
     if compared.is_none() {
         unnoticed.push(format!("{fault:?} went unnoticed"));
     }
-    if claimed.is_none() && BREAK_DEMAND_3.contains(fault) {
+    let mut breaking = BREAK_DEMAND_3.iter().chain(BREAK_DEMAND_3_WHERE_MIXED);
+    if claimed.is_none() && breaking.any(|breaking| breaking == fault) {
         unnoticed.push(format!("{fault:?} went unnoticed by the claims"));
     }
     unnoticed
@@ -182,7 +233,7 @@ pub fn run(seed: u64, list: &Path) -> Result<(), Found> {
         let what = format!("the part {} fails without a fault", noticed.part);
         return Err(Found::new(what));
     }
-    if claimed(None, seed).is_some() {
+    if claimed(None, seed).is_some() || claimed_where_mixed(None, seed).is_some() {
         return Err(Found::new("a claim does not hold, without a fault"));
     }
     println!(

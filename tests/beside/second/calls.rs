@@ -50,6 +50,7 @@ impl Panel {
             (Some(Fault::RefusedLapsedRaisesMark), 21) => {
                 raise(&mut self.delivered, message.source, message.deadline)
             }
+            (Some(Fault::RefusedCopyRemoves), 22) => self.remove_carried(message),
             (_, 32) => self.change_by_far_ahead(message),
             _ => {}
         }
@@ -84,9 +85,16 @@ impl Panel {
         }
         let ready =
             ready && !planted(Fault::EveryMessageHeldBack) && !self.wrongly_held_back(&message);
-        match ready || planted(Fault::HandedOnArrival) {
+        let on_arrival =
+            planted(Fault::HandedOnArrival) || self.old_with(Fault::OldMakeHandsOnArrival);
+        match ready || on_arrival {
             true => self.perform_delivery(&message, &mut log),
-            false => self.wait(message),
+            false => {
+                if planted(Fault::WaitingRemoves) {
+                    self.remove_carried(&message);
+                }
+                self.wait(message);
+            }
         }
         self.drop_far_ahead(Fault::ReceiveDropsFarAhead);
         self.check_pending_messages(&mut log);

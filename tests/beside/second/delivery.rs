@@ -85,6 +85,7 @@ impl Panel {
     pub fn perform_delivery(&mut self, message: &Message, log: &mut Log) {
         let (source, deadline) = (message.source, message.deadline);
         let received = source != self.own;
+        self.remove_carried(message);
         match planted(Fault::MarkOverwritten) {
             true => _ = self.delivered.insert(source, deadline),
             false => raise(&mut self.delivered, source, deadline),
@@ -95,6 +96,7 @@ impl Panel {
             false if planted(Fault::BarrierNotRaisedByOwn) && !received => {}
             false => raise(&mut self.barrier, source, deadline),
         }
+        self.change_by_handing(message);
         if !(planted(Fault::HighNotRaisedByReceived) && received) {
             self.high = self.high.max(deadline);
         }
@@ -130,16 +132,19 @@ impl Panel {
     /// Codes 7 and 13: settles the panel. Document 01 says which of several ready messages goes
     /// first.
     pub fn check_pending_messages(&mut self, log: &mut Log) {
-        if planted(Fault::EveryMessageHeldBack) {
+        let held_back = self.old_with(Fault::OldMakeDoesNotSettle);
+        if planted(Fault::EveryMessageHeldBack) || held_back {
             return;
         }
         if planted(Fault::OnePassOverTheList) {
             return self.pass_once(log);
         }
+        self.settling = true;
         while let Some(place) = self.next_ready() {
             let pending = self.leave(place);
             self.perform_delivery(&pending.message, log);
         }
+        self.settling = false;
     }
 
     /// The place of the ready message that goes first: lowest deadline, then lowest source, then

@@ -3,7 +3,7 @@
 use super::bundle::{step, Kind};
 use super::faults::{planted, Fault};
 use super::log::fields;
-use super::{fresh, LOG_RECORD, OUTPUT};
+use super::{fresh, Make, LOG_RECORD, OUTPUT};
 use std::fmt::Write;
 
 /// Bytes of the longest bundle that is read.
@@ -15,7 +15,8 @@ pub fn listing(input: &[u8]) -> String {
     if input.len() > longest {
         return "long\n".to_string();
     }
-    let mut panel = fresh(u8::from(planted(Fault::ListFeedsPanelOne))).0;
+    let number = u8::from(planted(Fault::ListFeedsPanelOne));
+    let mut panel = fresh(number, Make::New).0;
     panel.time = u32::from(planted(Fault::ListFeedsAtTimeOne));
     let mut text = String::new();
     let mut place = 0;

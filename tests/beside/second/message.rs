@@ -64,6 +64,11 @@ fn wrong_entry(entry: u32, deadline: u32) -> bool {
     zero || late
 }
 
+/// Whether this is what a planted fault leaves of an entry that was removed from the barrier.
+fn gone(entry: u32, fault: Fault) -> bool {
+    entry == 0 && planted(fault)
+}
+
 impl Message {
     /// The message whose frame has these bytes, or the number of the first check that applies.
     pub fn read(bytes: &[u8]) -> Result<Message, u8> {
@@ -111,10 +116,12 @@ impl Message {
         bytes.extend(self.deadline.to_be_bytes());
         let mask = self
             .predecessors
-            .keys()
-            .fold(0, |mask: u64, panel| mask | 1 << panel);
+            .iter()
+            .filter(|(_, entry)| !gone(**entry, Fault::RemovedBytesStay))
+            .fold(0, |mask: u64, (panel, _)| mask | 1 << panel);
         bytes.extend(mask.to_be_bytes());
         let mut entries: Vec<u32> = self.predecessors.values().copied().collect();
+        entries.retain(|entry| !gone(*entry, Fault::RemovedBitStays));
         if planted(Fault::EntriesWrittenHighestPanelFirst) {
             entries.reverse();
         }

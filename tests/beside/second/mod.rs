@@ -11,12 +11,14 @@ mod listing;
 pub mod log;
 mod message;
 mod panel;
+mod removal;
 mod sending;
 mod tracing;
 
 pub use listing::listing;
 pub use message::{Barrier, Message};
 pub use panel::{fresh, Panel};
+pub use removal::Make;
 
 use faults::exchanged;
 use std::fmt;

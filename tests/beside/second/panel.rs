@@ -3,7 +3,7 @@
 
 use super::delivery::visit;
 use super::faults::{planted, Fault};
-use super::{Barrier, Message, PANELS, WAITING};
+use super::{Barrier, Make, Message, PANELS, WAITING};
 use std::borrow::Cow;
 
 /// A message that waits, and its frame. The source strikes predecessors off as they are met or
@@ -25,6 +25,7 @@ impl Pending {
 /// A panel record.
 #[derive(Clone, Debug)]
 pub struct Panel {
+    pub make: Make,
     pub own: u8,
     pub time: u32,
     pub high: u32,
@@ -41,11 +42,14 @@ pub struct Panel {
     pub lost_places: usize,
     /// Messages that are never taken: none, but for a planted fault.
     pub turned_down: Vec<(u8, u32)>,
+    /// The panel settles just now: planted faults ask for it.
+    pub settling: bool,
 }
 
-/// A fresh panel, and the number that it is answered with.
-pub fn fresh(number: u8) -> (Panel, u8) {
+/// A fresh panel of this make, and the number that it is answered with.
+pub fn fresh(number: u8, make: Make) -> (Panel, u8) {
     let mut panel = Panel {
+        make,
         own: number,
         time: 0,
         high: 0,
@@ -56,6 +60,7 @@ pub fn fresh(number: u8) -> (Panel, u8) {
         unreadable: 0,
         lost_places: 0,
         turned_down: Vec::new(),
+        settling: false,
     };
     let last = PANELS - 1 + u8::from(planted(Fault::FreshSixtyFourTaken));
     if number <= last {
@@ -86,16 +91,17 @@ fn numbers(entries: &Barrier) -> [u32; 64] {
 }
 
 impl Panel {
-    /// A record that was kept, whole or broken: its numbers, how many messages it says are waiting,
-    /// and the bytes of the first 32 of them.
+    /// A record that was kept, whole or broken, at a panel of this make: its numbers, how many
+    /// messages it says are waiting, and the bytes of the first 32 of them.
     pub fn kept(
+        make: Make,
         (own, time, high): (u8, u32, u32),
         marks: &[u32; 64],
         barrier: &[u32; 64],
         count: usize,
         frames: &[Vec<u8>],
     ) -> Panel {
-        let mut panel = fresh(0).0;
+        let mut panel = fresh(0, make).0;
         (panel.own, panel.time, panel.high) = (own, time, high);
         (panel.delivered, panel.barrier) = (entries(marks), entries(barrier));
         panel.excess = count.saturating_sub(WAITING);

@@ -153,6 +153,7 @@ impl Panel {
             (Some(Fault::TraceRaisesTheMark), Ok(message)) => {
                 raise(&mut self.delivered, message.source, message.deadline)
             }
+            (Some(Fault::TraceRemoves), Ok(message)) => self.remove_carried(message),
             (Some(Fault::TraceDropsTheLapsed), _) => {
                 let now = self.time;
                 self.pending

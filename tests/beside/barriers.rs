@@ -1,0 +1,268 @@
+//! Shorter barriers, as document 02 has them in W-204: "When a message is handed, each barrier entry
+//! that is at most the entry this message carries for the same panel is removed, before the
+//! message's own goes in." Each case is written out for both makes.
+
+use crate::calls::Call;
+use crate::cases::is;
+use crate::compare::Both;
+use crate::compose::frame;
+use crate::kept::Kept;
+use crate::mixed::{Mixed, Panel};
+use crate::second::Make;
+use crate::side::{Found, Kind, Side};
+use crate::traces::Entries;
+
+pub fn run(both: &mut Both) -> Result<(), Found> {
+    let mut mixed = Mixed::new(both, 0);
+    busy_yard(&mut mixed)?;
+    borders(&mut mixed)?;
+    own_panel(&mut mixed)?;
+    ends_of_the_mask(&mut mixed)?;
+    while_settling(&mut mixed)?;
+    by_a_clock_call(&mut mixed)?;
+    by_a_send(&mut mixed)?;
+    only_when_handed(&mut mixed)
+}
+
+/// The 64 numbers of these entries.
+fn numbers(entries: Entries) -> [u32; 64] {
+    let mut numbers = [0; 64];
+    for (panel, entry) in entries {
+        numbers[usize::from(*panel)] = *entry;
+    }
+    numbers
+}
+
+/// What the calls of a case have to leave as the barrier: at a panel of the new make, and at one of
+/// the old make.
+struct Left<'case> {
+    new: Entries<'case>,
+    old: Entries<'case>,
+}
+
+/// A panel at this time in whose log the newest messages of some panels are these, none of them
+/// before its last send.
+fn logged(own: u8, time: u32, entries: Entries) -> Kept {
+    Kept {
+        high: entries.iter().map(|(_, entry)| *entry).max().unwrap_or(0),
+        marks: numbers(entries),
+        barrier: numbers(entries),
+        ..Kept::at(own, time)
+    }
+}
+
+/// Makes calls that are all accepted on a panel of each make.
+fn leaves(mixed: &mut Mixed, kept: &Kept, calls: &[Call], left: &Left) -> Result<(), Found> {
+    for (make, barrier) in [(Make::New, left.new), (Make::Old, left.old)] {
+        let mut panel = mixed.kept(kept, make);
+        for call in calls {
+            accepted(mixed, &mut panel, call)?;
+        }
+        has(mixed, &panel, barrier)?;
+    }
+    Ok(())
+}
+
+/// A panel's barrier has these entries, and no others.
+fn has(mixed: &Mixed, panel: &Panel, entries: Entries) -> Result<(), Found> {
+    let given = panel.barrier();
+    match given == numbers(entries) {
+        true => Ok(()),
+        false => {
+            let given: Vec<_> = (0..64).zip(given).filter(|(_, entry)| *entry > 0).collect();
+            let what = format!("bench case: barrier {given:?}, expected {entries:?}");
+            Err(Found::new(what).with(mixed.script(panel)))
+        }
+    }
+}
+
+/// A call that is accepted; the frame of a send.
+fn accepted(mixed: &mut Mixed, panel: &mut Panel, call: &Call) -> Result<Vec<u8>, Found> {
+    let answer = mixed.call(panel, call)?;
+    match answer.number {
+        0 => Ok(mixed.frame()[..answer.length].to_vec()),
+        number => {
+            let what = format!("bench case: {number}, expected 0");
+            Err(Found::new(what).with(mixed.script(panel)))
+        }
+    }
+}
+
+/// A fresh panel takes these frames and sends an empty payload with this lifetime; its frame.
+fn heard(
+    mixed: &mut Mixed,
+    (number, kind): (u8, Kind),
+    frames: &[Vec<u8>],
+    lifetime: u16,
+) -> Result<Vec<u8>, Found> {
+    let mut panel = mixed.fresh(number, kind)?;
+    for frame in frames {
+        accepted(mixed, &mut panel, &Call::receive(frame))?;
+    }
+    accepted(mixed, &mut panel, &Call::send(b"", lifetime))
+}
+
+/// Four panels at time 0, each of which takes what those before it sent. Only the makes of the last
+/// two make a difference.
+fn busy_yard(mixed: &mut Mixed) -> Result<(), Found> {
+    let (short_c, long_c): (Entries, Entries) = (&[(1, 200)], &[(0, 100), (1, 200)]);
+    let (short_d, long_d): (Entries, Entries) = (&[(2, 300)], &[(0, 100), (1, 200), (2, 300)]);
+    let yards = [
+        (Kind::New, Kind::New, (short_c, 23), (short_d, 23)),
+        (Kind::New, Kind::Old, (short_c, 23), (long_d, 31)),
+        (Kind::Old, Kind::New, (long_c, 27), (short_d, 23)),
+        (Kind::Old, Kind::Old, (long_c, 27), (long_d, 31)),
+    ];
+    for (two, three, (c_entries, c_length), (d_entries, d_length)) in yards {
+        for first in [Kind::New, Kind::Old] {
+            let a = heard(mixed, (0, first), &[], 100)?;
+            is("frame A", a == frame(0, 100, &[], b"") && a.len() == 19)?;
+            let b = heard(mixed, (1, first), &[a.clone()], 200)?;
+            is(
+                "frame B",
+                b == frame(1, 200, &[(0, 100)], b"") && b.len() == 23,
+            )?;
+            let c = heard(mixed, (2, two), &[a.clone(), b.clone()], 300)?;
+            is(
+                "frame C",
+                c == frame(2, 300, c_entries, b"") && c.len() == c_length,
+            )?;
+            let d = heard(mixed, (3, three), &[a, b, c], 400)?;
+            is(
+                "frame D",
+                d == frame(3, 400, d_entries, b"") && d.len() == d_length,
+            )?;
+        }
+    }
+    let d = b"\x44\x52\x59\x00\x01\x03\0\0\x01\x90\0\0\0\0\0\0\0\x04\0\0\x01\x2c\0";
+    is("the bytes of frame D", frame(3, 400, short_d, b"") == d)
+}
+
+/// An entry equal to the carried one goes, one above it stays, one below it goes, and one for which
+/// the message has no entry stays. That the entry carried for panel 5 has lapsed makes no difference.
+fn borders(mixed: &mut Mixed) -> Result<(), Found> {
+    let entries: Entries = &[(0, 100), (4, 101), (5, 50), (6, 70)];
+    let received = frame(1, 200, &[(0, 100), (4, 100), (5, 60)], b"");
+    let left = Left {
+        new: &[(1, 200), (4, 101), (6, 70)],
+        old: &[(0, 100), (1, 200), (4, 101), (5, 50), (6, 70)],
+    };
+    let call = Call::receive(&received);
+    leaves(mixed, &logged(3, 61, entries), &[call], &left)
+}
+
+/// The entry of the message's own panel, removed or not, is the message's in the end.
+fn own_panel(mixed: &mut Mixed) -> Result<(), Found> {
+    let left = Left {
+        new: &[(1, 300)],
+        old: &[(1, 300)],
+    };
+    for carried in [&[(1, 200)][..], &[(1, 199)], &[]] {
+        let call = Call::receive(&frame(1, 300, carried, b""));
+        leaves(mixed, &logged(3, 0, &[(1, 200)]), &[call], &left)?;
+    }
+    Ok(())
+}
+
+/// Entries of panels 0 and 63, and of all 64.
+fn ends_of_the_mask(mixed: &mut Mixed) -> Result<(), Found> {
+    let all: Vec<(u8, u32)> = (0..64).map(|panel| (panel, 60)).collect();
+    let mut then = all.clone();
+    then[7].1 = 90;
+    let call = || Call::receive(&frame(7, 90, &all, b""));
+    let left = Left {
+        new: &[(7, 90)],
+        old: &then,
+    };
+    leaves(mixed, &logged(3, 0, &all), &[call()], &left)?;
+    let left = Left {
+        new: &[(7, 90)],
+        old: &[(0, 60), (7, 90), (63, 60)],
+    };
+    let call = Call::receive(&frame(7, 90, &[(0, 60), (63, 60)], b""));
+    leaves(mixed, &logged(3, 0, &[(0, 60), (63, 60)]), &[call], &left)
+}
+
+/// Three messages wait for each other: once the first comes, each removes the one before it. Then
+/// two that wait for the same one: both stay.
+fn while_settling(mixed: &mut Mixed) -> Result<(), Found> {
+    let calls = [
+        Call::receive(&frame(4, 400, &[(1, 100), (2, 300)], b"")),
+        Call::receive(&frame(2, 300, &[(9, 200)], b"")),
+        Call::receive(&frame(9, 200, &[(1, 100)], b"")),
+        Call::receive(&frame(1, 100, &[], b"")),
+    ];
+    let left = Left {
+        new: &[(4, 400)],
+        old: &[(1, 100), (2, 300), (4, 400), (9, 200)],
+    };
+    leaves(mixed, &Kept::at(0, 0), &calls, &left)?;
+    let calls = [
+        Call::receive(&frame(9, 900, &[(7, 800)], b"")),
+        Call::receive(&frame(5, 900, &[(7, 800)], b"")),
+        Call::receive(&frame(7, 800, &[], b"")),
+    ];
+    let left = Left {
+        new: &[(5, 900), (9, 900)],
+        old: &[(5, 900), (7, 800), (9, 900)],
+    };
+    leaves(mixed, &Kept::at(0, 0), &calls, &left)
+}
+
+/// A clock call hands a message whose missing entry lapses: the lapsed entry removes too. A lapsed
+/// barrier entry stays where none is carried.
+fn by_a_clock_call(mixed: &mut Mixed) -> Result<(), Found> {
+    let calls = [
+        Call::receive(&frame(5, 100, &[(1, 55), (4, 60)], b"")),
+        Call::clock(56),
+    ];
+    let left = Left {
+        new: &[(2, 53), (5, 100), (6, 70)],
+        old: &[(1, 54), (2, 53), (4, 60), (5, 100), (6, 70)],
+    };
+    let kept = logged(0, 50, &[(1, 54), (2, 53), (4, 60), (6, 70)]);
+    leaves(mixed, &kept, &calls, &left)
+}
+
+/// A send empties the barrier, at either make. What waited for the own message removes its entry.
+fn by_a_send(mixed: &mut Mixed) -> Result<(), Found> {
+    let kept = logged(0, 50, &[(4, 60), (6, 70)]);
+    let left = Left {
+        new: &[(0, 150)],
+        old: &[(0, 150)],
+    };
+    leaves(mixed, &kept, &[Call::send(b"", 100)], &left)?;
+    let calls = [
+        Call::receive(&frame(5, 160, &[(0, 150), (4, 60)], b"")),
+        Call::send(b"", 100),
+    ];
+    let left = Left {
+        new: &[(5, 160)],
+        old: &[(0, 150), (5, 160)],
+    };
+    leaves(mixed, &kept, &calls, &left)
+}
+
+/// A message that waits removes nothing yet, and neither does a trace, nor a copy that is refused.
+fn only_when_handed(mixed: &mut Mixed) -> Result<(), Found> {
+    let entries: Entries = &[(4, 60), (6, 70)];
+    let kept = logged(0, 50, entries);
+    let left = Left {
+        new: entries,
+        old: entries,
+    };
+    let waits = Call::receive(&frame(5, 100, &[(1, 90), (4, 60)], b""));
+    leaves(mixed, &kept, &[waits.clone()], &left)?;
+    let ready = Call::trace(&frame(5, 100, &[(4, 60)], b""));
+    leaves(mixed, &kept, &[ready], &left)?;
+    let mut kept = kept;
+    (kept.marks[3], kept.high) = (80, 80);
+    let mut panel = mixed.kept(&kept, Make::New);
+    accepted(mixed, &mut panel, &waits)?;
+    for copy in [waits, Call::receive(&frame(3, 80, &[(6, 70)], b""))] {
+        let answer = mixed.call(&mut panel, &copy)?;
+        is("a copy is refused with 22", answer.number == 22)?;
+        has(mixed, &panel, entries)?;
+    }
+    Ok(())
+}

@@ -1,16 +1,16 @@
-//! Shorter barriers, as document 02 has them in W-204: "When a message is handed, each barrier entry
-//! that is at most the entry this message carries for the same panel is removed, before the
+//! Shorter barriers, as document 02 has them in W-204: "When a message is handed, each barrier
+//! entry that is at most the entry this message carries for the same panel is removed, before the
 //! message's own goes in." Each case is written out for both makes.
 
 use crate::calls::Call;
 use crate::cases::is;
 use crate::compare::Both;
-use crate::compose::frame;
+use crate::compose::{frame, numbers};
 use crate::kept::Kept;
 use crate::mixed::{Mixed, Panel};
 use crate::second::Make;
 use crate::side::{Found, Kind, Side};
-use crate::traces::Entries;
+use crate::traces::{highest, Entries};
 
 pub fn run(both: &mut Both) -> Result<(), Found> {
     let mut mixed = Mixed::new(both, 0);
@@ -24,15 +24,6 @@ pub fn run(both: &mut Both) -> Result<(), Found> {
     only_when_handed(&mut mixed)
 }
 
-/// The 64 numbers of these entries.
-fn numbers(entries: Entries) -> [u32; 64] {
-    let mut numbers = [0; 64];
-    for (panel, entry) in entries {
-        numbers[usize::from(*panel)] = *entry;
-    }
-    numbers
-}
-
 /// What the calls of a case have to leave as the barrier: at a panel of the new make, and at one of
 /// the old make.
 struct Left<'case> {
@@ -44,7 +35,7 @@ struct Left<'case> {
 /// before its last send.
 fn logged(own: u8, time: u32, entries: Entries) -> Kept {
     Kept {
-        high: entries.iter().map(|(_, entry)| *entry).max().unwrap_or(0),
+        high: highest(entries),
         marks: numbers(entries),
         barrier: numbers(entries),
         ..Kept::at(own, time)
@@ -139,7 +130,8 @@ fn busy_yard(mixed: &mut Mixed) -> Result<(), Found> {
 }
 
 /// An entry equal to the carried one goes, one above it stays, one below it goes, and one for which
-/// the message has no entry stays. That the entry carried for panel 5 has lapsed makes no difference.
+/// the message has no entry stays. The entry carried for panel 5 has lapsed, and removes all the
+/// same.
 fn borders(mixed: &mut Mixed) -> Result<(), Found> {
     let entries: Entries = &[(0, 100), (4, 101), (5, 50), (6, 70)];
     let received = frame(1, 200, &[(0, 100), (4, 100), (5, 60)], b"");

@@ -4,7 +4,7 @@ use crate::beacons;
 use crate::bundles::printed;
 use crate::calls::Call;
 use crate::compare::{Both, Pair};
-use crate::compose::{deadline_of, frame};
+use crate::compose::{deadline_of, frame, numbers};
 use crate::second::{listing, LOG_RECORD, OUTPUT};
 use crate::side::Found;
 use crate::traces;
@@ -163,6 +163,10 @@ fn case_7(both: &mut Both) -> Result<(), Found> {
             arrival,
             &[(1, 800, b""), (5, 900, b""), (9, 900, b"")],
         )?;
+        let marks = numbers(&[(1, 800), (5, 900), (9, 900)]);
+        is("the marks of case 7", panel.module.marks == marks)?;
+        let barrier = numbers(&[(5, 900), (9, 900)]);
+        is("the barrier of case 7", panel.module.barrier == barrier)?;
     }
     Ok(())
 }

@@ -151,8 +151,8 @@ impl Both {
     }
 
     /// Makes a call, and a trace before each receive. The trace needs no line in the script, as it
-    /// is made again with the receive. What the call left in the lent buffers is then in `output` and
-    /// `frame`.
+    /// is made again with the receive. What the call left in the lent buffers is then in `output`
+    /// and `frame`.
     pub fn call(&mut self, pair: &mut Pair, call: &Call) -> Result<Answer, Found> {
         pair.script.calls.push(call.clone());
         self.before.clone_from(&pair.module);

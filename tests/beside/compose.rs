@@ -16,15 +16,29 @@ pub fn frame(source: u8, deadline: u32, entries: &[(u8, u32)], payload: &[u8]) -
     bytes
 }
 
+/// The 64 numbers of these entries.
+pub fn numbers(entries: &[(u8, u32)]) -> [u32; 64] {
+    let mut numbers = [0; 64];
+    for (panel, entry) in entries {
+        numbers[usize::from(*panel)] = *entry;
+    }
+    numbers
+}
+
 /// The deadline of a frame.
 pub fn deadline_of(frame: &[u8]) -> u32 {
     u32::from_be_bytes([frame[6], frame[7], frame[8], frame[9]])
 }
 
+/// How many entries a frame has, if the mask is there.
+pub fn entries(frame: &[u8]) -> usize {
+    let mask = frame[10..18].iter();
+    mask.map(|byte| byte.count_ones() as usize).sum()
+}
+
 /// Where the length byte of a frame stands, if the mask is there.
 fn length_at(frame: &[u8]) -> usize {
-    let mask = frame[10..18].iter();
-    18 + 4 * mask.map(|byte| byte.count_ones() as usize).sum::<usize>()
+    18 + 4 * entries(frame)
 }
 
 /// A payload of a length of interest.

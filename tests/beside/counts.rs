@@ -174,29 +174,20 @@ impl Counts {
             }
             text.push('\n');
         }
-        for (count, words) in self.rows() {
+        for (count, words) in self.rows().iter().chain(&self.rows_of_lists()) {
             _ = writeln!(text, "{count:>11} {words}");
         }
         text
     }
 
     /// The counts below the table.
-    fn rows(&self) -> [(u64, &'static str); 29] {
-        let spoken = self.lists.spoken;
+    fn rows(&self) -> [(u64, &'static str); 17] {
         let visited = |visits: usize| self.tests[0][visits] + self.tests[1][visits];
         [
             (
                 self.calls(),
                 "calls of fresh, send, beacon, receive and clock",
             ),
-            (self.lists.calls, "of them in lists"),
-            (self.lists.lists, "lists"),
-            (self.lists.mixed, "of them with panels of both makes"),
-            (self.lists.old_calls, "calls on panels of the old make"),
-            (self.shadowed, "calls beside a shadow of the old make"),
-            (self.beside_shadow, "frames sent by them"),
-            (self.shorter, "of them shorter than the shadow's"),
-            (self.bytes_less, "bytes that these have less"),
             (self.records, "log records"),
             (self.waited, "messages that waited"),
             (self.several, "calls that handed several messages"),
@@ -209,6 +200,24 @@ impl Counts {
             (visited(2), "traces with two visits"),
             (visited(3), "traces with three visits or more"),
             (self.most_visited as u64, "most visits of one trace"),
+            (self.bundle_steps, "steps of bundles"),
+            (self.log_reads, "log records read"),
+            (self.listings, "runs of list"),
+            (self.lists.lists, "lists"),
+        ]
+    }
+
+    /// The counts of the lists.
+    fn rows_of_lists(&self) -> [(u64, &'static str); 12] {
+        let spoken = self.lists.spoken;
+        [
+            (self.lists.mixed, "of them with panels of both makes"),
+            (self.lists.calls, "calls in lists"),
+            (self.lists.old_calls, "of them on panels of the old make"),
+            (self.shadowed, "calls beside a shadow of the old make"),
+            (self.beside_shadow, "frames sent by them"),
+            (self.shorter, "of these shorter than the shadow's"),
+            (self.bytes_less, "bytes shorter, all together"),
             (self.lists.sent_far_ahead, "messages sent far ahead"),
             (self.lists.taken_later, "messages taken after a 32"),
             (self.lists.claim_checks, "checks of demand 3's claims"),
@@ -217,9 +226,6 @@ impl Counts {
                 "messages at panels that the last check of each list spoke of",
             ),
             (spoken.waiting, "of them waiting for others"),
-            (self.bundle_steps, "steps of bundles"),
-            (self.log_reads, "log records read"),
-            (self.listings, "runs of list"),
         ]
     }
 }

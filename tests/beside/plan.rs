@@ -161,7 +161,7 @@ impl Plan {
         let mut plan = Plan {
             panels: panels(random),
             makes: random.pick(&[AllNew, AllNew, AllNew, OneNew, Half, Makes::Any]),
-            shadows: random.chance(30),
+            shadows: random.chance(20),
             calls: calls(random),
             lawful,
             clocks: random.pick(&[Near, Near, Apart, Apart, Wide, Last, Weeks, LastWeeks]),
@@ -210,6 +210,7 @@ impl Plan {
     /// handed at many panels before they send, and barriers grow long.
     fn spreads(&mut self, random: &mut Random) {
         self.panels = random.between(3, 12);
+        self.shadows = random.chance(60);
         self.calls = self.calls.max(200);
         self.clocks = random.pick(&[Clocks::Near, Clocks::Near, Clocks::Apart, Clocks::Wide]);
         self.clock_step = random.pick(&[1, 3]);

@@ -3,7 +3,7 @@
 
 use crate::calls::Call;
 use crate::compare::Both;
-use crate::compose::frame;
+use crate::compose::{frame, numbers};
 use crate::kept::Kept;
 use crate::second::{Answer, Test};
 use crate::side::Found;
@@ -28,12 +28,16 @@ pub fn run(both: &mut Both) -> Result<(), Found> {
 
 /// Panel 0 at this time, with these marks.
 pub fn panel(time: u32, marks: Entries) -> Kept {
-    let mut kept = Kept::at(0, time);
-    for (panel, mark) in marks {
-        kept.marks[usize::from(*panel)] = *mark;
-        kept.high = kept.high.max(*mark);
+    Kept {
+        high: highest(marks),
+        marks: numbers(marks),
+        ..Kept::at(0, time)
     }
-    kept
+}
+
+/// The highest of these entries, 0 for none.
+pub fn highest(entries: Entries) -> u32 {
+    entries.iter().map(|(_, entry)| *entry).max().unwrap_or(0)
 }
 
 /// Panel 0 at time 50, with marks of panels 3, 7 and 9.

@@ -1,10 +1,10 @@
-//! How long frames are in a yard whose panels are of the old make, of the new make, or half of them
-//! of each: the table of docs/BARRIERS.md. It is made with the second implementation alone.
+//! How long frames are in a yard whose panels are all of the old make, half of them, or none: the
+//! table of docs/BARRIERS.md, which says what is done in a yard. The module has no part in it.
 
 use crate::bits::Bits;
 use crate::compose;
 use crate::random::Random;
-use crate::second::{self, Make, FRAME, LOG_RECORD, OUTPUT};
+use crate::second::{self, Answer, Make, FRAME, LOG_RECORD, OUTPUT};
 use crate::side::Found;
 use std::fmt::Write;
 
@@ -12,19 +12,18 @@ use std::fmt::Write;
 const YARDS: [u8; 3] = [8, 16, 64];
 /// The loads, with how many contacts there are for each send.
 const LOADS: [(&str, usize); 2] = [("quiet", 60), ("busy", 3)];
-/// Frames sent in a list.
-const SENDS: usize = 2_000;
-/// What is sent.
-const PAYLOAD: [u8; 8] = *b"18.5% 62";
+/// Frames that are sent in a yard.
+const SENDS: usize = 1_500;
+const PAYLOAD: [u8; 8] = *b"corn 18%";
 const SEED: u64 = 204;
 
-/// What is done in a yard. Time goes on with each contact.
+/// What is done in a yard, by the places of its panels.
 enum Event {
     Send(usize),
     Contact { giver: usize, taker: usize },
 }
 
-/// The events of a yard: for each send so many contacts, all by random.
+/// The random events of a yard: sends, and so many contacts after each.
 fn events(panels: u8, contacts: usize) -> Vec<Event> {
     let mut random = Random::new(SEED, u64::from(panels) * 100 + contacts as u64);
     let panels = usize::from(panels);
@@ -40,7 +39,7 @@ fn events(panels: u8, contacts: usize) -> Vec<Event> {
     events
 }
 
-/// A panel of the yard, the frames that it holds in the order in which they came, and its log.
+/// A panel of a yard, the frames that it holds in the order in which they came, and its log.
 struct Member {
     panel: second::Panel,
     held: Vec<usize>,
@@ -48,67 +47,77 @@ struct Member {
     log: Vec<u8>,
 }
 
-/// What was sent in a yard.
+impl Member {
+    fn new(number: u8, make: Make) -> Member {
+        Member {
+            panel: second::fresh(number, make).0,
+            held: Vec::new(),
+            holds: Bits::default(),
+            log: Vec::new(),
+        }
+    }
+
+    fn hold(&mut self, frame: usize) {
+        self.held.push(frame);
+        self.holds.insert(frame);
+    }
+
+    /// Takes down what a call wrote, which no call refuses here.
+    fn after(&mut self, answer: Answer, output: &[u8]) -> Result<(), Found> {
+        self.log.extend(&output[..answer.count * LOG_RECORD]);
+        match answer.number {
+            0 => Ok(()),
+            number => Err(Found::new(format!(
+                "a call in a yard was refused: {number}"
+            ))),
+        }
+    }
+}
+
+/// The panels of a yard, and the frames that they sent.
 struct Yard {
     members: Vec<Member>,
     frames: Vec<Vec<u8>>,
     output: [u8; OUTPUT],
 }
 
-/// What a call wrote goes to the log of its panel.
-fn logged(member: &mut Member, answer: second::Answer, output: &[u8]) -> Result<(), Found> {
-    member.log.extend(&output[..answer.count * LOG_RECORD]);
-    match answer.number {
-        0 => Ok(()),
-        number => Err(Found::new(format!("a call in a yard answers {number}"))),
-    }
-}
-
 impl Yard {
-    fn new(makes: impl Fn(u8) -> Make, panels: u8) -> Yard {
-        let member = |number| Member {
-            panel: second::fresh(number, makes(number)).0,
-            held: Vec::new(),
-            holds: Bits::default(),
-            log: Vec::new(),
-        };
-        Yard {
-            members: (0..panels).map(member).collect(),
+    /// A yard in which all this has been done. Each panel is given frames once a minute, on an
+    /// average.
+    fn run(makes: fn(u8) -> Make, panels: u8, events: &[Event]) -> Result<Yard, Found> {
+        let members = (0..panels).map(|number| Member::new(number, makes(number)));
+        let mut yard = Yard {
+            members: members.collect(),
             frames: Vec::new(),
             output: [0; OUTPUT],
-        }
-    }
-
-    /// All panels meet another one once a minute, on an average.
-    fn run(mut self, events: &[Event]) -> Result<Yard, Found> {
+        };
         let mut contacts = 0;
         for event in events {
-            let time = (contacts * 60 / self.members.len()) as u32;
+            let time = contacts * 60 / u32::from(panels);
             match event {
-                Event::Send(panel) => self.send(*panel, time)?,
+                Event::Send(place) => yard.send(*place, time)?,
                 Event::Contact { giver, taker } => {
                     contacts += 1;
-                    self.contact(*giver, *taker, time)?;
+                    yard.contact(*giver, *taker, time)?;
                 }
             }
         }
-        Ok(self)
+        Ok(yard)
     }
 
     fn clock(&mut self, place: usize, time: u32) -> Result<(), Found> {
         let member = &mut self.members[place];
         let answer = member.panel.clock(time, &mut self.output);
-        logged(member, answer, &self.output)
+        member.after(answer, &self.output)
     }
 
     fn send(&mut self, place: usize, time: u32) -> Result<(), Found> {
         self.clock(place, time)?;
-        let member = &mut self.members[place];
+        let (member, output) = (&mut self.members[place], &mut self.output);
         let mut frame = [0; FRAME];
-        let answer = member.panel.send(&PAYLOAD, 0, &mut self.output, &mut frame);
-        logged(member, answer, &self.output)?;
-        member.holds.insert(self.frames.len());
-        member.held.push(self.frames.len());
+        let answer = member.panel.send(&PAYLOAD, 0, output, &mut frame);
+        member.after(answer, output)?;
+        member.hold(self.frames.len());
         self.frames.push(frame[..answer.length].to_vec());
         Ok(())
     }
@@ -119,16 +128,13 @@ impl Yard {
         let frames = &self.frames;
         let live = |frame: &usize| compose::deadline_of(&frames[*frame]) >= time;
         self.members[giver].held.retain(live);
-        let given = self.members[giver].held.clone();
-        let member = &mut self.members[taker];
+        let mut given = self.members[giver].held.clone();
+        let (member, output) = (&mut self.members[taker], &mut self.output);
+        given.retain(|frame| !member.holds.has(*frame));
         for frame in given {
-            if member.holds.has(frame) {
-                continue;
-            }
-            let answer = member.panel.receive(&frames[frame], &mut self.output);
-            logged(member, answer, &self.output)?;
-            member.holds.insert(frame);
-            member.held.push(frame);
+            let answer = member.panel.receive(&frames[frame], output);
+            member.after(answer, output)?;
+            member.hold(frame);
         }
         Ok(())
     }
@@ -136,55 +142,69 @@ impl Yard {
     fn bytes(&self) -> usize {
         self.frames.iter().map(Vec::len).sum()
     }
+
+    /// The logs are those of the yard with old panels, and no frame is longer than there.
+    fn compare(&self, old: &Yard) -> Result<(), Found> {
+        let mut members = self.members.iter().zip(&old.members);
+        if !members.all(|(member, old)| member.log == old.log) {
+            return Err(Found::new("other logs in a yard with new panels"));
+        }
+        let mut frames = self.frames.iter().zip(&old.frames);
+        match frames.all(|(frame, old)| frame.len() <= old.len()) {
+            true => Ok(()),
+            false => Err(Found::new("a longer frame in a yard with new panels")),
+        }
+    }
+
+    /// What the table says of the frames, beside the yard with old panels.
+    fn columns(&self, old: &Yard) -> String {
+        let sent = self.frames.len();
+        let mean = |sum: usize| sum as f64 / sent as f64;
+        let entries = mean(
+            self.frames
+                .iter()
+                .map(|frame| compose::entries(frame))
+                .sum(),
+        );
+        let longest = self.frames.iter().map(Vec::len).max().unwrap_or(0);
+        let less = 100.0 - 100.0 * self.bytes() as f64 / old.bytes() as f64;
+        let bytes = mean(self.bytes());
+        format!("{sent} | {entries:.2} | {bytes:.2} | {longest} | {less:.1} %")
+    }
 }
 
-/// The row of a yard, beside the same yard with panels of the old make.
-fn row(yard: &Yard, old: &Yard) -> String {
-    let sent = yard.frames.len() as f64;
-    let bytes = yard.bytes() as f64;
-    let without_entries = (19 + PAYLOAD.len()) as f64;
-    let entries = (bytes / sent - without_entries) / 4.0;
-    let longest = yard.frames.iter().map(Vec::len).max().unwrap_or(0);
-    let shorter = 100.0 * (1.0 - bytes / old.bytes() as f64);
-    format!(
-        "{sent} | {entries:.2} | {:.2} | {longest} | {shorter:.1} % |",
-        bytes / sent
-    )
-}
-
-/// The logs are the same, and no frame is longer than that of the same send by an old panel.
-fn compare(yard: &Yard, old: &Yard) -> Result<(), Found> {
-    let mut members = yard.members.iter().zip(&old.members);
-    if !members.all(|(member, old)| member.log == old.log) {
-        return Err(Found::new("the makes of a yard's panels change a log"));
+/// The rows of a yard with this load. The first is that of panels of the old make alone.
+fn rows(panels: u8, (load, contacts): (&str, usize)) -> Result<String, Found> {
+    let makes: [(&str, fn(u8) -> Make); 3] = [
+        ("all old", |_| Make::Old),
+        ("half new", |number| {
+            [Make::Old, Make::New][usize::from(number % 2)]
+        }),
+        ("all new", |_| Make::New),
+    ];
+    let events = events(panels, contacts);
+    let mut yards = Vec::new();
+    for (name, makes) in makes {
+        yards.push((name, Yard::run(makes, panels, &events)?));
     }
-    let mut frames = yard.frames.iter().zip(&old.frames);
-    match frames.all(|(frame, old)| frame.len() <= old.len()) {
-        true => Ok(()),
-        false => Err(Found::new("a frame is longer than with the old make")),
+    let old = &yards[0].1;
+    let mut text = String::new();
+    for (name, yard) in &yards {
+        yard.compare(old)?;
+        let columns = yard.columns(old);
+        _ = writeln!(text, "| {panels} | {load} | {name} | {columns} |");
     }
+    Ok(text)
 }
 
 /// The table, as Markdown.
 pub fn table() -> Result<String, Found> {
-    let mut text = String::from(
-        "| panels | load | makes | frames | entries a frame | bytes a frame | longest | shorter by |\n\
-         |---|---|---|---|---|---|---|---|\n",
-    );
+    let columns =
+        "panels | load | makes | frames | entries a frame | bytes a frame | longest frame";
+    let mut text = format!("| {columns} | bytes less |\n|---|---|---|---|---|---|---|---|\n");
     for panels in YARDS {
-        for (load, contacts) in LOADS {
-            let events = events(panels, contacts);
-            let old = Yard::new(|_| Make::Old, panels).run(&events)?;
-            let half = |number: u8| match number % 2 {
-                0 => Make::Old,
-                _ => Make::New,
-            };
-            let half = Yard::new(half, panels).run(&events)?;
-            let new = Yard::new(|_| Make::New, panels).run(&events)?;
-            for (makes, yard) in [("old", &old), ("half", &half), ("new", &new)] {
-                compare(yard, &old)?;
-                _ = writeln!(text, "| {panels} | {load} | {makes} | {}", row(yard, &old));
-            }
+        for load in LOADS {
+            text += &rows(panels, load)?;
         }
     }
     Ok(text)

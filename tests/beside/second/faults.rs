@@ -102,6 +102,7 @@ faults! {
     OwnRemovedToo: "the message's own goes in first and is removed too",
     CarriedGoesIn: "the entries carried go into the barrier",
     RemovedFromTheMarks: "the mark is removed with the barrier entry",
+    RemovedIsSent: "a removed entry stands in the next frame all the same",
     RemovedIsZero: "a removed entry stands in the next frame as 0",
     RemovedBitStays: "a removed entry keeps its bit in the next frame's mask",
     RemovedBytesStay: "a removed entry keeps four bytes in the next frame, without its bit",

@@ -44,6 +44,8 @@ pub struct Panel {
     pub turned_down: Vec<(u8, u32)>,
     /// The panel settles just now: planted faults ask for it.
     pub settling: bool,
+    /// What planted faults write into the next frame of entries that were removed.
+    pub left_over: Barrier,
 }
 
 /// A fresh panel of this make, and the number that it is answered with.
@@ -61,6 +63,7 @@ pub fn fresh(number: u8, make: Make) -> (Panel, u8) {
         lost_places: 0,
         turned_down: Vec::new(),
         settling: false,
+        left_over: Barrier::new(),
     };
     let last = PANELS - 1 + u8::from(planted(Fault::FreshSixtyFourTaken));
     if number <= last {

@@ -116,8 +116,10 @@ impl Panel {
             Some(Fault::RemovedFromTheMarks) => self
                 .delivered
                 .retain(|panel, _| !removed.contains_key(panel)),
+            Some(Fault::RemovedIsSent) => self.left_over.extend(removed),
             Some(Fault::RemovedIsZero | Fault::RemovedBitStays | Fault::RemovedBytesStay) => {
-                self.barrier.extend(removed.keys().map(|panel| (*panel, 0)));
+                let zeros = removed.keys().map(|panel| (*panel, 0));
+                self.left_over.extend(zeros);
             }
             _ => {}
         }

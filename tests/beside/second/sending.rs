@@ -135,7 +135,8 @@ impl Panel {
         if planted(Fault::BarrierEmptiedBeforeFrame) || note.wrong(Fault::BeaconWithoutEntries) {
             self.barrier.clear();
         }
-        let mut predecessors = self.barrier.clone();
+        let mut predecessors = std::mem::take(&mut self.left_over);
+        predecessors.extend(&self.barrier);
         if planted(Fault::LapsedEntriesStripped) {
             predecessors.retain(|_, entry| *entry >= self.time);
         }

@@ -109,11 +109,13 @@ test_rust() {
     grep -q E0507 $built/log || fail "rustc turns tests/copied.rs down otherwise: $(cat $built/log)"
 }
 
-# A second implementation beside the module, without faults and with planted ones.
+# A second implementation beside the module, without faults and with planted ones, and the table of
+# frame lengths that it makes.
 test_beside() {
     rustc --edition 2021 -O -D warnings -L native=$to/lib -o $built/beside tests/beside/main.rs
     $built/beside --list target/bin/list
     $built/beside --list target/bin/list --faults
+    docs/barriers.sh --check
 }
 
 [ -n "${WITHOUT_RUST:-}" ] || command -v rustc >/dev/null ||

@@ -1,5 +1,5 @@
 //! A second implementation beside the module: makes the same calls on both and compares them, and
-//! checks the claims of demand 3 on what the module wrote.
+//! checks the claims of demand 3 on what the module wrote, and panels of the old make beside it.
 
 mod ahead;
 mod barriers;

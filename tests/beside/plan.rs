@@ -212,7 +212,7 @@ impl Plan {
         self.panels = random.between(3, 12);
         self.shadows = random.chance(60);
         self.calls = self.calls.max(200);
-        self.clocks = random.pick(&[Clocks::Near, Clocks::Near, Clocks::Apart, Clocks::Wide]);
+        self.clocks = random.pick(&[Clocks::Near, Clocks::Apart, Clocks::Wide, Clocks::Weeks]);
         self.clock_step = random.pick(&[1, 3]);
         self.lost = random.pick(&[0, 5, 30]);
         self.most_passed = random.pick(&[8, 50]);

@@ -155,7 +155,8 @@ fn claimed_where_mixed(fault: Option<Fault>, seed: u64) -> Option<u64> {
     let found = lists::run(&mut mixed, seed, CLAIM_CALLS, true);
     let calls = mixed.calls();
     plant(None);
-    found.err().map(|_| calls)
+    let claim = |found: &Found| found.what.starts_with("demand 3");
+    found.err().filter(claim).map(|_| calls)
 }
 
 /// After how many calls the claims notice a fault that breaks demand 3.

@@ -79,54 +79,57 @@ fn accepted(mixed: &mut Mixed, panel: &mut Panel, call: &Call) -> Result<Vec<u8>
     }
 }
 
-/// A fresh panel takes these frames and sends an empty payload with this lifetime; its frame.
-fn heard(
+/// What a send at time 0 has to come to: deadline, which is its lifetime, entries and length.
+type Sent<'case> = (u16, Entries<'case>, usize);
+
+/// A fresh panel takes these frames and sends an empty payload; the frame.
+fn sends(
     mixed: &mut Mixed,
     (number, kind): (u8, Kind),
-    frames: &[Vec<u8>],
-    lifetime: u16,
+    heard: &[&[u8]],
+    (lifetime, entries, length): Sent,
 ) -> Result<Vec<u8>, Found> {
     let mut panel = mixed.fresh(number, kind)?;
-    for frame in frames {
+    for frame in heard {
         accepted(mixed, &mut panel, &Call::receive(frame))?;
     }
-    accepted(mixed, &mut panel, &Call::send(b"", lifetime))
-}
-
-/// Four panels at time 0, each of which takes what those before it sent. Only the makes of the last
-/// two make a difference.
-fn busy_yard(mixed: &mut Mixed) -> Result<(), Found> {
-    let (short_c, long_c): (Entries, Entries) = (&[(1, 200)], &[(0, 100), (1, 200)]);
-    let (short_d, long_d): (Entries, Entries) = (&[(2, 300)], &[(0, 100), (1, 200), (2, 300)]);
-    let yards = [
-        (Kind::New, Kind::New, (short_c, 23), (short_d, 23)),
-        (Kind::New, Kind::Old, (short_c, 23), (long_d, 31)),
-        (Kind::Old, Kind::New, (long_c, 27), (short_d, 23)),
-        (Kind::Old, Kind::Old, (long_c, 27), (long_d, 31)),
-    ];
-    for (two, three, (c_entries, c_length), (d_entries, d_length)) in yards {
-        for first in [Kind::New, Kind::Old] {
-            let a = heard(mixed, (0, first), &[], 100)?;
-            is("frame A", a == frame(0, 100, &[], b"") && a.len() == 19)?;
-            let b = heard(mixed, (1, first), &[a.clone()], 200)?;
-            is(
-                "frame B",
-                b == frame(1, 200, &[(0, 100)], b"") && b.len() == 23,
-            )?;
-            let c = heard(mixed, (2, two), &[a.clone(), b.clone()], 300)?;
-            is(
-                "frame C",
-                c == frame(2, 300, c_entries, b"") && c.len() == c_length,
-            )?;
-            let d = heard(mixed, (3, three), &[a, b, c], 400)?;
-            is(
-                "frame D",
-                d == frame(3, 400, d_entries, b"") && d.len() == d_length,
-            )?;
+    let sent = accepted(mixed, &mut panel, &Call::send(b"", lifetime))?;
+    let expected = frame(number, u32::from(lifetime), entries, b"");
+    match sent == expected && sent.len() == length {
+        true => Ok(sent),
+        false => {
+            let what = format!("bench case: {sent:?}, expected {expected:?}");
+            Err(Found::new(what).with(mixed.script(&panel)))
         }
     }
-    let d = b"\x44\x52\x59\x00\x01\x03\0\0\x01\x90\0\0\0\0\0\0\0\x04\0\0\x01\x2c\0";
-    is("the bytes of frame D", frame(3, 400, short_d, b"") == d)
+}
+
+/// Four panels at time 0, each of which takes what those before it sent: A, B, C and D. Only the
+/// makes of the last two make a difference.
+fn busy_yard(mixed: &mut Mixed) -> Result<(), Found> {
+    let (short_c, long_c): (Sent, Sent) =
+        ((300, &[(1, 200)], 23), (300, &[(0, 100), (1, 200)], 27));
+    let short_d: Sent = (400, &[(2, 300)], 23);
+    let long_d: Sent = (400, &[(0, 100), (1, 200), (2, 300)], 31);
+    let yards = [
+        (Kind::New, short_c, Kind::New, short_d),
+        (Kind::New, short_c, Kind::Old, long_d),
+        (Kind::Old, long_c, Kind::New, short_d),
+        (Kind::Old, long_c, Kind::Old, long_d),
+    ];
+    for (two, c, three, d) in yards {
+        for first in [Kind::New, Kind::Old] {
+            let a = sends(mixed, (0, first), &[], (100, &[], 19))?;
+            let b = sends(mixed, (1, first), &[&a], (200, &[(0, 100)], 23))?;
+            let c = sends(mixed, (2, two), &[&a, &b], c)?;
+            sends(mixed, (3, three), &[&a, &b, &c], d)?;
+        }
+    }
+    let bytes = b"\x44\x52\x59\x00\x01\x03\0\0\x01\x90\0\0\0\0\0\0\0\x04\0\0\x01\x2c\0";
+    is(
+        "the bytes of frame D",
+        frame(3, 400, short_d.1, b"") == bytes,
+    )
 }
 
 /// An entry equal to the carried one goes, one above it stays, one below it goes, and one for which
@@ -134,12 +137,11 @@ fn busy_yard(mixed: &mut Mixed) -> Result<(), Found> {
 /// same.
 fn borders(mixed: &mut Mixed) -> Result<(), Found> {
     let entries: Entries = &[(0, 100), (4, 101), (5, 50), (6, 70)];
-    let received = frame(1, 200, &[(0, 100), (4, 100), (5, 60)], b"");
+    let call = Call::receive(&frame(1, 200, &[(0, 100), (4, 100), (5, 60)], b""));
     let left = Left {
         new: &[(1, 200), (4, 101), (6, 70)],
         old: &[(0, 100), (1, 200), (4, 101), (5, 50), (6, 70)],
     };
-    let call = Call::receive(&received);
     leaves(mixed, &logged(3, 61, entries), &[call], &left)
 }
 
@@ -161,18 +163,15 @@ fn ends_of_the_mask(mixed: &mut Mixed) -> Result<(), Found> {
     let all: Vec<(u8, u32)> = (0..64).map(|panel| (panel, 60)).collect();
     let mut then = all.clone();
     then[7].1 = 90;
-    let call = || Call::receive(&frame(7, 90, &all, b""));
-    let left = Left {
-        new: &[(7, 90)],
-        old: &then,
-    };
-    leaves(mixed, &logged(3, 0, &all), &[call()], &left)?;
-    let left = Left {
-        new: &[(7, 90)],
-        old: &[(0, 60), (7, 90), (63, 60)],
-    };
-    let call = Call::receive(&frame(7, 90, &[(0, 60), (63, 60)], b""));
-    leaves(mixed, &logged(3, 0, &[(0, 60), (63, 60)]), &[call], &left)
+    let cases: [(Entries, Entries); 2] = [
+        (&[(0, 60), (63, 60)], &[(0, 60), (7, 90), (63, 60)]),
+        (&all, &then),
+    ];
+    cases.iter().try_for_each(|(entries, old)| {
+        let new = &[(7, 90)];
+        let call = Call::receive(&frame(7, 90, entries, b""));
+        leaves(mixed, &logged(3, 0, entries), &[call], &Left { new, old })
+    })
 }
 
 /// Three messages wait for each other: once the first comes, each removes the one before it. Then

@@ -1,8 +1,8 @@
 //! How long frames are in a yard whose panels are all of the old make, half of them, or none: the
 //! table of docs/BARRIERS.md, which says what is done in a yard. The module has no part in it.
 
-use crate::bits::Bits;
 use crate::compose;
+use crate::member::Member;
 use crate::random::Random;
 use crate::second::{self, Answer, Make, FRAME, LOG_RECORD, OUTPUT};
 use crate::side::Found;
@@ -39,44 +39,10 @@ fn events(panels: u8, contacts: usize) -> Vec<Event> {
     events
 }
 
-/// A panel of a yard, the frames that it holds in the order in which they came, and its log.
-struct Member {
-    panel: second::Panel,
-    held: Vec<usize>,
-    holds: Bits,
-    log: Vec<u8>,
-}
-
-impl Member {
-    fn new(number: u8, make: Make) -> Member {
-        Member {
-            panel: second::fresh(number, make).0,
-            held: Vec::new(),
-            holds: Bits::default(),
-            log: Vec::new(),
-        }
-    }
-
-    fn hold(&mut self, frame: usize) {
-        self.held.push(frame);
-        self.holds.insert(frame);
-    }
-
-    /// Takes down what a call wrote, which no call refuses here.
-    fn after(&mut self, answer: Answer, output: &[u8]) -> Result<(), Found> {
-        self.log.extend(&output[..answer.count * LOG_RECORD]);
-        match answer.number {
-            0 => Ok(()),
-            number => Err(Found::new(format!(
-                "a call in a yard was refused: {number}"
-            ))),
-        }
-    }
-}
-
-/// The panels of a yard, and the frames that they sent.
+/// The panels of a yard with their logs, and the frames that they sent.
 struct Yard {
-    members: Vec<Member>,
+    members: Vec<Member<second::Panel>>,
+    logs: Vec<Vec<u8>>,
     frames: Vec<Vec<u8>>,
     output: [u8; OUTPUT],
 }
@@ -85,9 +51,13 @@ impl Yard {
     /// A yard in which all this has been done. Each panel is given frames once a minute, on an
     /// average.
     fn run(makes: fn(u8) -> Make, panels: u8, events: &[Event]) -> Result<Yard, Found> {
-        let members = (0..panels).map(|number| Member::new(number, makes(number)));
+        let member = |number| {
+            let make = makes(number);
+            Member::new(second::fresh(number, make).0, number, make, 0)
+        };
         let mut yard = Yard {
-            members: members.collect(),
+            members: (0..panels).map(member).collect(),
+            logs: vec![Vec::new(); usize::from(panels)],
             frames: Vec::new(),
             output: [0; OUTPUT],
         };
@@ -105,21 +75,31 @@ impl Yard {
         Ok(yard)
     }
 
+    /// Takes down what a call wrote. No call is refused here.
+    fn after(&mut self, place: usize, answer: Answer) -> Result<(), Found> {
+        let written = &self.output[..answer.count * LOG_RECORD];
+        self.logs[place].extend(written);
+        match answer.number {
+            0 => Ok(()),
+            number => Err(Found::new(format!(
+                "a call in a yard was refused: {number}"
+            ))),
+        }
+    }
+
     fn clock(&mut self, place: usize, time: u32) -> Result<(), Found> {
-        let member = &mut self.members[place];
-        let answer = member.panel.clock(time, &mut self.output);
-        member.after(answer, &self.output)
+        let panel = &mut self.members[place].panel;
+        let answer = panel.clock(time, &mut self.output);
+        self.after(place, answer)
     }
 
     fn send(&mut self, place: usize, time: u32) -> Result<(), Found> {
         self.clock(place, time)?;
-        let (member, output) = (&mut self.members[place], &mut self.output);
-        let mut frame = [0; FRAME];
-        let answer = member.panel.send(&PAYLOAD, 0, output, &mut frame);
-        member.after(answer, output)?;
+        let (member, mut frame) = (&mut self.members[place], [0; FRAME]);
+        let answer = member.panel.send(&PAYLOAD, 0, &mut self.output, &mut frame);
         member.hold(self.frames.len());
         self.frames.push(frame[..answer.length].to_vec());
-        Ok(())
+        self.after(place, answer)
     }
 
     /// One panel gives another all live frames that it holds and the other lacks.
@@ -129,12 +109,12 @@ impl Yard {
         let live = |frame: &usize| compose::deadline_of(&frames[*frame]) >= time;
         self.members[giver].held.retain(live);
         let mut given = self.members[giver].held.clone();
-        let (member, output) = (&mut self.members[taker], &mut self.output);
-        given.retain(|frame| !member.holds.has(*frame));
+        given.retain(|frame| !self.members[taker].holds(*frame));
         for frame in given {
-            let answer = member.panel.receive(&frames[frame], output);
-            member.after(answer, output)?;
+            let member = &mut self.members[taker];
+            let answer = member.panel.receive(&self.frames[frame], &mut self.output);
             member.hold(frame);
+            self.after(taker, answer)?;
         }
         Ok(())
     }
@@ -145,8 +125,7 @@ impl Yard {
 
     /// The logs are those of the yard with old panels, and no frame is longer than there.
     fn compare(&self, old: &Yard) -> Result<(), Found> {
-        let mut members = self.members.iter().zip(&old.members);
-        if !members.all(|(member, old)| member.log == old.log) {
+        if self.logs != old.logs {
             return Err(Found::new("other logs in a yard with new panels"));
         }
         let mut frames = self.frames.iter().zip(&old.frames);
@@ -160,13 +139,9 @@ impl Yard {
     fn columns(&self, old: &Yard) -> String {
         let sent = self.frames.len();
         let mean = |sum: usize| sum as f64 / sent as f64;
-        let entries = mean(
-            self.frames
-                .iter()
-                .map(|frame| compose::entries(frame))
-                .sum(),
-        );
-        let longest = self.frames.iter().map(Vec::len).max().unwrap_or(0);
+        let frames = || self.frames.iter();
+        let entries = mean(frames().map(|frame| compose::entries(frame)).sum());
+        let longest = frames().map(Vec::len).max().unwrap_or(0);
         let less = 100.0 - 100.0 * self.bytes() as f64 / old.bytes() as f64;
         let bytes = mean(self.bytes());
         format!("{sent} | {entries:.2} | {bytes:.2} | {longest} | {less:.1} %")
@@ -177,8 +152,9 @@ impl Yard {
 fn rows(panels: u8, (load, contacts): (&str, usize)) -> Result<String, Found> {
     let makes: [(&str, fn(u8) -> Make); 3] = [
         ("all old", |_| Make::Old),
-        ("half new", |number| {
-            [Make::Old, Make::New][usize::from(number % 2)]
+        ("half new", |number| match number % 2 {
+            0 => Make::Old,
+            _ => Make::New,
         }),
         ("all new", |_| Make::New),
     ];

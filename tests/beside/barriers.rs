@@ -15,6 +15,7 @@ use crate::traces::{highest, Entries};
 pub fn run(both: &mut Both) -> Result<(), Found> {
     let mut mixed = Mixed::new(both, 0);
     busy_yard(&mut mixed)?;
+    brought(&mut mixed)?;
     borders(&mut mixed)?;
     own_panel(&mut mixed)?;
     ends_of_the_mask(&mut mixed)?;
@@ -130,6 +131,34 @@ fn busy_yard(mixed: &mut Mixed) -> Result<(), Found> {
         "the bytes of frame D",
         frame(3, 400, short_d.1, b"") == bytes,
     )
+}
+
+/// A panel takes A and B, is brought to the other make, and takes C, which a panel of either make
+/// has sent. What the old make kept is removed only by what C carries.
+fn brought(mixed: &mut Mixed) -> Result<(), Found> {
+    let heard = [frame(0, 100, &[], b""), frame(1, 200, &[(0, 100)], b"")];
+    let short_c = frame(2, 300, &[(1, 200)], b"");
+    let long_c = frame(2, 300, &[(0, 100), (1, 200)], b"");
+    let cases: [(Make, &[u8], Entries); 4] = [
+        (Make::New, &short_c, &[(0, 100), (2, 300)]),
+        (Make::New, &long_c, &[(2, 300)]),
+        (Make::Old, &short_c, &[(1, 200), (2, 300)]),
+        (Make::Old, &long_c, &[(1, 200), (2, 300)]),
+    ];
+    for (make, c, barrier) in cases {
+        let kind = match make {
+            Make::Old => Kind::New,
+            Make::New => Kind::Old,
+        };
+        let mut panel = mixed.fresh(3, kind)?;
+        for frame in &heard {
+            accepted(mixed, &mut panel, &Call::receive(frame))?;
+        }
+        mixed.bring(&mut panel, make);
+        accepted(mixed, &mut panel, &Call::receive(c))?;
+        has(mixed, &panel, barrier)?;
+    }
+    Ok(())
 }
 
 /// An entry equal to the carried one goes, one above it stays, one below it goes, and one for which

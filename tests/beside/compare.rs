@@ -23,6 +23,13 @@ pub struct Pair {
     broken: bool,
 }
 
+impl Pair {
+    /// The record in plain form.
+    pub fn kept(&self) -> Kept {
+        Kept::of(&self.second)
+    }
+}
+
 /// Both implementations. The rooms are those of the last call.
 pub struct Both {
     random: Random,

@@ -128,6 +128,7 @@ impl Counts {
                 "no list took a message that 32 had refused",
             ),
             (self.lists.mixed, "no list had panels of both makes"),
+            (self.lists.brought, "no panel was brought to the other make"),
             (self.shorter, "no frame was shorter than a shadow's"),
         ];
         let never = of_lists
@@ -208,12 +209,13 @@ impl Counts {
     }
 
     /// The counts of the lists.
-    fn rows_of_lists(&self) -> [(u64, &'static str); 12] {
+    fn rows_of_lists(&self) -> [(u64, &'static str); 13] {
         let spoken = self.lists.spoken;
         [
             (self.lists.mixed, "of them with panels of both makes"),
             (self.lists.calls, "calls in lists"),
             (self.lists.old_calls, "of them on panels of the old make"),
+            (self.lists.brought, "panels brought to the other make"),
             (self.shadowed, "calls beside a shadow of the old make"),
             (self.beside_shadow, "frames sent by them"),
             (self.shorter, "of these shorter than the shadow's"),

@@ -20,6 +20,8 @@ pub struct Farm<'side, S: Side> {
     pub calls: usize,
     /// Calls on panels of the old make.
     pub old_calls: u64,
+    /// How often a panel was brought to the other make.
+    pub brought: u64,
     pub claim_checks: u64,
     /// Messages sent that were far ahead at their panel.
     pub sent_far_ahead: u64,
@@ -48,6 +50,7 @@ impl<'side, S: Side> Farm<'side, S> {
             claims,
             calls: 0,
             old_calls: 0,
+            brought: 0,
             claim_checks: 0,
             sent_far_ahead: 0,
             taken_later: 0,
@@ -82,6 +85,17 @@ impl<'side, S: Side> Farm<'side, S> {
             self.check_claims()?;
         }
         Ok(answer)
+    }
+
+    /// A panel is brought to the other make.
+    pub fn bring(&mut self, place: usize) {
+        let member = &mut self.members[place];
+        member.make = match member.make {
+            Make::Old => Make::New,
+            Make::New => Make::Old,
+        };
+        self.side.bring(&mut member.panel, member.make);
+        self.brought += 1;
     }
 
     /// Checks the claims of demand 3 for the list so far, if the list keeps to its condition.

@@ -54,6 +54,22 @@ impl Kept {
         }
     }
 
+    /// The record of a panel of the second implementation, whole.
+    pub fn of(panel: &Panel) -> Kept {
+        let count = panel.count();
+        Kept {
+            own: panel.own,
+            time: panel.time,
+            high: panel.high,
+            marks: panel.marks(),
+            barrier: panel.barrier_entries(),
+            count,
+            frames: (0..count)
+                .map(|place| panel.waiting(place).into_owned())
+                .collect(),
+        }
+    }
+
     /// The record in the second implementation, at a panel of this make.
     pub fn second(&self, make: Make) -> Panel {
         let numbers = (self.own, self.time, self.high);

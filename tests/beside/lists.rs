@@ -22,9 +22,11 @@ pub struct Done {
     /// Messages sent far ahead, and messages taken that had been refused as far ahead.
     pub sent_far_ahead: u64,
     pub taken_later: u64,
-    /// Lists in which calls were made on panels of both makes, and calls on panels of the old make.
+    /// Lists in which calls were made on panels of both makes, calls on panels of the old make, and
+    /// how often a panel was brought to the other make.
     pub mixed: u64,
     pub old_calls: u64,
+    pub brought: u64,
 }
 
 /// Makes lists until so many calls are made. If all are to be lawful, each keeps to the condition
@@ -48,6 +50,7 @@ pub fn run<S: Side>(side: &mut S, seed: u64, calls: u64, all_lawful: bool) -> Re
         done.calls += farm.calls as u64;
         done.mixed += u64::from(0 < farm.old_calls && farm.old_calls < farm.calls as u64);
         done.old_calls += farm.old_calls;
+        done.brought += farm.brought;
         done.claim_checks += farm.claim_checks;
         done.sent_far_ahead += farm.sent_far_ahead;
         done.taken_later += farm.taken_later;
@@ -72,6 +75,9 @@ impl<S: Side> Farm<'_, S> {
         while self.calls < self.plan.calls && !self.claims.void {
             let place = self.random.below(self.members.len());
             let other = self.random.below(self.members.len());
+            if self.random.chance(self.plan.brought) {
+                self.bring(place);
+            }
             let all: usize = self.plan.often.iter().sum();
             let mut choice = self.random.below(all);
             let mut kind = 0;

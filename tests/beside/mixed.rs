@@ -16,6 +16,14 @@ pub enum Panel {
 }
 
 impl Panel {
+    /// The record in plain form.
+    fn record(&self) -> Kept {
+        match self {
+            Panel::Old(panel) => Kept::of(panel),
+            Panel::New(pair, _) => pair.kept(),
+        }
+    }
+
     /// The 64 barrier entries.
     pub fn barrier(&self) -> [u32; 64] {
         match self {
@@ -105,6 +113,11 @@ impl Side for Mixed<'_> {
         let shadowed = kind == Kind::Shadowed && self.shadows;
         let shadow = shadowed.then(|| Shadow::new(number));
         Ok(Panel::New(self.both.fresh(number)?, shadow))
+    }
+
+    /// A panel that is brought to the new make has no shadow.
+    fn bring(&mut self, panel: &mut Panel, make: Make) {
+        *panel = self.kept(&panel.record(), make);
     }
 
     fn call(&mut self, panel: &mut Panel, call: &Call) -> Result<Answer, Found> {

@@ -110,6 +110,8 @@ pub enum Order {
 pub struct Plan {
     pub panels: usize,
     pub makes: Makes,
+    /// How many steps in a hundred begin with a panel that is brought to the other make.
+    pub brought: usize,
     /// The panels of the new make have shadows.
     pub shadows: bool,
     pub calls: usize,
@@ -161,6 +163,7 @@ impl Plan {
         let mut plan = Plan {
             panels: panels(random),
             makes: random.pick(&[AllNew, AllNew, AllNew, OneNew, Half, Makes::Any]),
+            brought: random.pick(&[0, 0, 3]),
             shadows: random.chance(20),
             calls: calls(random),
             lawful,
@@ -184,6 +187,9 @@ impl Plan {
             // What is checked of old panels and of shadows is said of lawful lists only.
             (plan.makes, plan.shadows) = (AllNew, false);
             plan.often[4] = random.pick(&[20, 100]);
+        }
+        if matches!(plan.makes, AllNew) {
+            plan.brought = 0;
         }
         plan
     }

@@ -63,6 +63,9 @@ pub trait Side {
 
     fn fresh(&mut self, number: u8, kind: Kind) -> Result<Self::Panel, Found>;
 
+    /// Brings a panel to this make, as other firmware does: its record stays.
+    fn bring(&mut self, panel: &mut Self::Panel, make: Make);
+
     /// Makes a call. What it left in the lent buffers is then in `output` and `frame`.
     fn call(&mut self, panel: &mut Self::Panel, call: &Call) -> Result<Answer, Found>;
 
@@ -108,6 +111,10 @@ impl Side for Alone {
 
     fn fresh(&mut self, number: u8, kind: Kind) -> Result<second::Panel, Found> {
         Ok(second::fresh(number, kind.make()).0)
+    }
+
+    fn bring(&mut self, panel: &mut second::Panel, make: Make) {
+        panel.make = make;
     }
 
     fn call(&mut self, panel: &mut second::Panel, call: &Call) -> Result<Answer, Found> {

@@ -1,6 +1,7 @@
 -- A list of calls in a farm is one that demand 3 speaks of: each call gave what it promises. Assumes nothing.
 use mathlib.Core.Path.{subst}
 use mathlib.Core.List.{List, [], _∷_}
+use Rattle.rules.specs.Panel.{Panel}
 use Rattle.rules.specs.Results.{Promised}
 use Rattle.rules.specs.Lists.{AllPromised}
 use Rattle.parts.specs.Record.{recordOf}
@@ -25,5 +26,6 @@ ran-kept run (panel-clock (κs, given, answer, ended, learnt, made)) = subst Kep
 
 pub follows-promised : (list : List FarmCall) → Follows list → AllPromised (farm list)
 follows-promised [] follows = tt
-follows-promised (module-call run ∷ earlier) (given, ran, rest) = (rw (← given) (ran-kept run ran), follows-promised earlier rest)
+follows-promised (module-call run ∷ earlier) (given, ran, rest) =
+    (subst (λ (p : Panel). Promised p (run .call) (resultOf run)) given (ran-kept run ran), follows-promised earlier rest)
 follows-promised (other-call made ∷ earlier) (promise, rest) = (promise, follows-promised earlier rest)

@@ -12,7 +12,7 @@ use lib.Count.{onesIn}
 use lib.Bits.{bitAnd}
 use Rattle.numbers.specs.Numbers.{numberAt}
 use Rattle.numbers.proofs.NumberAt.{getD-numbersAt}
-use Rattle.numbers.proofs.Ones.{onesIn-zero}
+use Rattle.numbers.proofs.Ones.{onesIn-le, onesIn-zero}
 use Rattle.frame.specs.Reading.{maskIn, countIn, entriesIn, messageIn}
 use Rattle.frame.proofs.Entries.{length-byPanel}
 use Rattle.frame.proofs.Panels.{div-half, getD-byPanel, onesIn-lt}
@@ -113,9 +113,12 @@ module _ {bs : List ℕ} {bits passed : ℕ} (w : Walk bs bits passed) (some : b
   pub turn-passed : passed ≡ onesIn (next bits) mask
   turn-passed = omega (arith, w .seen, onesIn-next left)
 
-  -- its entry stands within the frame's entries, behind those that were passed
-  pub turn-room : 18 + 4 * passed + 4 ≤ 18 + 4 * countIn 4 bs
-  turn-room = omega (arith, turn-passed, onesIn-lt 64 mask (next bits) turn-lt (next-set left))
+  -- its entry is one of the frame's, behind those that were passed
+  pub turn-few : passed < countIn 4 bs
+  turn-few = omega (arith, turn-passed, onesIn-lt 64 mask (next bits) turn-lt (next-set left))
+
+  pub turn-64 : passed < 64
+  turn-64 = omega (arith, turn-few, onesIn-le 64 mask)
 
   pub turn-entry : entryOf bs (next bits) ≡ numberAt bs (18 + 4 * passed) 4
   turn-entry = entry-set bs (next bits) turn-lt (next-set left) ∙ ap (λ (n : ℕ). numberAt bs (18 + 4 * n) 4) (sym turn-passed)

@@ -1,6 +1,7 @@
 -- The bench cases hold of the definitions: each is computed. Assumes nothing.
-use mathlib.Core.Path.{refl}
+use mathlib.Core.Path.{_≡_, refl}
 use mathlib.Core.List.{flatten}
+use lib.ListN.{length}
 use lib.Count.{onesIn}
 use Rattle.numbers.specs.Numbers.{bigEndian, bigEndians, number, numberAt, numbersAt}
 use Rattle.numbers.specs.Buffer.{over}
@@ -9,7 +10,7 @@ use Rattle.frame.specs.Frame.{fields, frame}
 use Rattle.frame.specs.Refusal.{firstOf}
 use Rattle.frame.specs.Reading.{eachEarlier, checks, messageIn, reading}
 use Rattle.frame.specs.Readable.{eachBelow, readable}
-use Rattle.rules.specs.Panel.{none64, fresh, lapsed, met, eachPanel, ready}
+use Rattle.rules.specs.Panel.{oldMake, newMake, none64, fresh, lapsed, met, eachPanel, ready}
 use Rattle.rules.specs.Handing.{raise, shortened, barrierFor, hand, logRecord, logRecords}
 use Rattle.rules.specs.Settling.{sooner, chosen, choice, without, goOn, settleIn, settle}
 use Rattle.rules.specs.Calls.{handAndSettle, sendDeadline, newMessage, sending, receiving, alive, clocking}
@@ -18,7 +19,7 @@ use Rattle.rules.specs.Results.{refused, done, unless, defined}
 use Rattle.rules.specs.Visiting.{entriesFrom, upToUnmet, traceChecks, trace}
 use Rattle.rules.specs.Cases.{finished, _and_, EachHolds, EachShown}
 use Rattle.rules.specs.FarAheadCases.{farFrame1, farFrame2, caseFarAhead, caseFarAheadStays, caseLastDays}
-use Rattle.rules.specs.BarrierCases.{caseYard, caseYardMixed, caseRemoved, caseOwn}
+use Rattle.rules.specs.BarrierCases.{frameC, frameD, caseYard, caseYardMixed, caseRemoved, caseOwn}
 use Rattle.rules.specs.BenchCases.{frame1, case1, frame2, case2, case3, case4, case5, case6, case7, case8, queue, case9, case10, case11, caseBeacon, caseOrder, caseUnreached, caseTrace, benchCases}
 
 -- whoever unfolds these unfolds all definitions: of frames, of a panel's rules, of the calls, and the cases
@@ -51,3 +52,7 @@ bench-cases = refl and refl and refl and refl and refl and refl and refl and ref
 pub trace-case : EachShown caseTrace
 unfolding tracesOpened
 trace-case = refl
+
+-- At the busy yard a frame of the new make has fewer bytes than one of the old make.
+pub yard-shorter : (length (frameC newMake) ≡ 23) × (length (frameC oldMake) ≡ 27) × (length (frameD newMake) ≡ 23) × (length (frameD oldMake) ≡ 31)
+yard-shorter = (refl, refl, refl, refl)

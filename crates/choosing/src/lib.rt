@@ -1,9 +1,8 @@
 // The choice: which waiting messages are ready, and which of them goes first. An internal crate.
 // Precondition: slots that hold readable frames; the calls of a panel refuse any other record.
+use numbers::number_at;
 use slots::deadline;
-use slots::entry_behind;
 use slots::kept_frame;
-use slots::mask;
 use slots::source;
 ghost use mathlib.Core.Path.{_≡_};
 ghost use mathlib.Core.List.{[], _∷_};
@@ -49,11 +48,11 @@ pub fn ready(frame: &[u8], marks: &[u32; 64], time: u32) -> Tested
     ensures { λ r. ⌜ r .ready ≡ isReady (asking (now (marks .entry)) time) (messageIn 4 (now (frame .entry))) ⌝ }
     ensures { λ r. ⌜ r .visited ≡ visits (asking (now (marks .entry)) time) (messageIn 4 (now (frame .entry))) ⌝ }
 {
-    let mut bits = mask(frame);
+    let mut bits = number_at(frame, 10, 8);
     let mut visited = 0;
     while bits != 0 {
         let panel = u64::trailing_zeros(bits) as usize;
-        let entry = entry_behind(frame, visited);
+        let entry = number_at(frame, 18 + 4 * visited, 4) as u32;
         let with_this = visited + 1;
         if !is_met(entry, marks[panel], time) {
             return Tested {

@@ -1,11 +1,10 @@
 // Handing: barrier entries that the message covers are removed; its log record goes behind those before
 // it, and high, its source's mark and barrier entry become at least its deadline. An internal crate.
 // Preconditions: readable frames, and room in the output; the calls of a panel refuse anything else.
+use numbers::number_at;
 use numbers::put_bytes;
 use numbers::put_number;
 use slots::deadline;
-use slots::entry_behind;
-use slots::mask;
 use slots::source;
 ghost use mathlib.Core.Path.{_≡_};
 ghost use Prim.Native.Nat.{_+_, _*_, _≤_, max};
@@ -34,7 +33,7 @@ fn put_log_record(part: &mut [u8], frame: &[u8])
     requires { ⌜ (38 ≤ length (now part)) × Reads (now frame) ⌝ }
     ensures { λ _. ⌜ now (part .exit) ≡ over (now (part .entry)) 0 (logRecord (messageIn 4 (now (frame .entry)))) ⌝ }
 {
-    let start = 19 + 4 * (u64::count_ones(mask(frame)) as usize);
+    let start = 19 + 4 * (u64::count_ones(number_at(frame, 10, 8)) as usize);
     let length = frame.len() - start;
     put_number(part, 0, 1, source(frame) as u64);
     put_number(part, 1, 4, deadline(frame) as u64);
@@ -95,11 +94,11 @@ fn shorten(barrier: &mut [u32; 64], frame: &[u8])
     requires { ⌜ Reads (now frame) ⌝ }
     ensures { λ _. ⌜ now (barrier .exit) ≡ shortened (now (barrier .entry)) (messageIn 4 (now (frame .entry)) .entries) ⌝ }
 {
-    let mut bits = mask(frame);
+    let mut bits = number_at(frame, 10, 8);
     let mut passed = 0;
     while bits != 0 {
         let panel = u64::trailing_zeros(bits) as usize;
-        let carried = entry_behind(frame, passed);
+        let carried = number_at(frame, 18 + 4 * passed, 4) as u32;
         barrier[panel] = remaining(barrier[panel], carried);
         bits = bits & (bits - 1);
         passed += 1;

@@ -12,10 +12,12 @@ use lib.Count.{onesIn}
 use lib.Bits.{bitAnd}
 use Rattle.numbers.specs.Numbers.{numberAt}
 use Rattle.numbers.proofs.NumberAt.{getD-numbersAt}
-use Rattle.numbers.proofs.Ones.{onesIn-le, onesIn-zero}
+use Rattle.numbers.proofs.Ones.{onesIn-zero}
 use Rattle.frame.specs.Reading.{maskIn, countIn, entriesIn, messageIn}
 use Rattle.frame.proofs.Entries.{length-byPanel}
+use Rattle.frame.proofs.Passed.{zero-passed}
 use Rattle.frame.proofs.Panels.{div-half, getD-byPanel, onesIn-lt}
+use Rattle.slots.specs.Slots.{Reads}
 use Rattle.slots.proofs.SetBits.{from, next, More, step, next-step, next-unset, next-set, next-lt, next-rest, onesIn-add, onesIn-next, onesIn-after}
 
 -- ---- the entry of a panel
@@ -113,12 +115,9 @@ module _ {bs : List ℕ} {bits passed : ℕ} (w : Walk bs bits passed) (some : b
   pub turn-passed : passed ≡ onesIn (next bits) mask
   turn-passed = omega (arith, w .seen, onesIn-next left)
 
-  -- its entry is one of the frame's, behind those that were passed
-  pub turn-few : passed < countIn 4 bs
-  turn-few = omega (arith, turn-passed, onesIn-lt 64 mask (next bits) turn-lt (next-set left))
-
-  pub turn-64 : passed < 64
-  turn-64 = omega (arith, turn-few, onesIn-le 64 mask)
+  -- its entry stands in the frame, behind those that were passed
+  pub turn-room : Reads bs → 18 + 4 * passed + 4 ≤ length bs
+  turn-room reads = omega (arith, turn-passed, onesIn-lt 64 mask (next bits) turn-lt (next-set left), zero-passed 4 bs reads .room)
 
   pub turn-entry : entryOf bs (next bits) ≡ numberAt bs (18 + 4 * passed) 4
   turn-entry = entry-set bs (next bits) turn-lt (next-set left) ∙ ap (λ (n : ℕ). numberAt bs (18 + 4 * n) 4) (sym turn-passed)

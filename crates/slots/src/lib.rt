@@ -4,10 +4,9 @@
 use numbers::number_at;
 ghost use mathlib.Core.Path.{_≡_};
 ghost use mathlib.Core.Bool.{_&&_};
-ghost use Prim.Native.Nat.{_+_, _*_, _^_, _<_};
+ghost use Prim.Native.Nat.{_<_};
 ghost use lib.Dec.{eqb};
-ghost use Rattle.numbers.specs.Numbers.{numberAt};
-ghost use Rattle.frame.specs.Reading.{maskIn, countIn, messageIn};
+ghost use Rattle.frame.specs.Reading.{messageIn};
 ghost use Rattle.rules.specs.Refusals.{isWaiting as waits};
 ghost use Rattle.slots.specs.Slots.{Reads, Slots, Fits, Kept, firstSlots, held};
 ghost use Rattle.slots.specs.Slots.{frameAt as frameIn};
@@ -31,7 +30,7 @@ pub fn kept_frame(slots: &[u8], slot: usize) -> &[u8]
     &slots[start..end]
 }
 
-// Source, deadline and mask of a readable frame.
+// The source and the deadline of a readable frame.
 pub fn source(frame: &[u8]) -> u8
     requires { ⌜ Reads (now frame) ⌝ }
     ensures { λ r. ⌜ r ≡ messageIn 4 (now (frame .entry)) .source ⌝ }
@@ -44,21 +43,6 @@ pub fn deadline(frame: &[u8]) -> u32
     ensures { λ r. ⌜ r ≡ messageIn 4 (now (frame .entry)) .deadline ⌝ }
 {
     number_at(frame, 6, 4) as u32
-}
-
-pub fn mask(frame: &[u8]) -> u64
-    requires { ⌜ Reads (now frame) ⌝ }
-    ensures { λ r. ⌜ (r ≡ maskIn 4 (now (frame .entry))) × (r < 2 ^ 64) ⌝ }
-{
-    number_at(frame, 10, 8)
-}
-
-// The entry of a readable frame that stands behind so many others.
-pub fn entry_behind(frame: &[u8], others: usize) -> u32
-    requires { ⌜ Reads (now frame) × (others < countIn 4 (now frame)) ⌝ }
-    ensures { λ r. ⌜ r ≡ numberAt (now (frame .entry)) (18 + 4 * others) 4 ⌝ }
-{
-    number_at(frame, 18 + 4 * others, 4) as u32
 }
 
 // Whether the message of a readable frame has that source and deadline.

@@ -10,9 +10,9 @@ use denote.Ref.{now}
 use lib.ListN.{length, getD}
 use lib.Bits.{and-le-r}
 use Rattle.numbers.specs.Numbers.{numberAt}
-use Rattle.frame.specs.Reading.{countIn}
+use Rattle.frame.proofs.Passed.{zero-passed}
 use Rattle.slots.proofs.SetBits.{next}
-use Rattle.slots.proofs.Walk.{turn-lt, turn-few, turn-64}
+use Rattle.slots.proofs.Walk.{turn-lt, turn-room}
 use Rattle.choosing.proofs.ready.Proof.Turns.{MetBelow, metBy, met-start, end-ready, end-visits, stop-ready, stop-visits, turn-on}
 use Rattle.choosing.proofs.ready.Statement.{statement}
 use Rattle.choosing.proofs.ready.Tie as tie
@@ -23,31 +23,40 @@ Inv-loop frame marks time bits₀ visited₀ bits visited = MetBelow frame marks
 abbrev μ-loop : tie.MeasureT-loop
 μ-loop frame marks time bits₀ visited₀ bits visited = bits
 
-mask-requires : tie.Need-mask-requires Inv-loop μ-loop
-mask-requires c κs = c .before .pre
+number-at-requires : tie.Need-number-at-requires Inv-loop μ-loop
+number-at-requires c κs = omega (arith, zero-passed 4 _ (c .before .pre) .long)
 
 loop-holds : tie.Need-loop-holds Inv-loop μ-loop
 loop-holds c =
     let a = c .before .before .args in
-    let (is, fits) = c .mask .ensures in
-    subst (λ (bits : ℕ). MetBelow (now (a .frame)) (now (a .marks)) (a .time) bits 0) (sym is)
-    (met-start (now (a .frame)) (now (a .marks)) (a .time) (subst (λ (bits : ℕ). bits < 2 ^ 64) is fits))
+    let mask = c .number-at .ensures .0 in
+    subst (λ (bits : ℕ). MetBelow (now (a .frame)) (now (a .marks)) (a .time) bits 0) (sym mask)
+    (met-start (now (a .frame)) (now (a .marks)) (a .time) (subst (λ (bits : ℕ). bits < 2 ^ 64) mask (c .number-at .ensures .1)))
 
--- in a turn the panel is one of 64, and its entry one of the frame's
+-- in a turn the panel is one of 64, and its entry stands within the frame
 below : (c : tie.In-loop Inv-loop μ-loop) → next (c .before .loop .bits) < 64
 below c = turn-lt (c .before .loop .inv .walk) (c .loop-test .taken)
 
-few : (c : tie.In-loop Inv-loop μ-loop) → c .before .loop .visited < countIn 4 (now (c .before .before .before .before .args .frame))
-few c = turn-few (c .before .loop .inv .walk) (c .loop-test .taken)
+room : (c : tie.In-loop Inv-loop μ-loop) → 18 + 4 * c .before .loop .visited + 4 ≤ length (now (c .before .before .before .before .args .frame))
+room c = turn-room (c .before .loop .inv .walk) (c .loop-test .taken) (c .before .before .before .before .pre)
 
 cast-panel : tie.Need-cast-panel Inv-loop μ-loop
 cast-panel c = omega (arith, below c)
 
-entry-behind-requires : tie.Need-entry-behind-requires Inv-loop μ-loop
-entry-behind-requires c κs = (c .before .before .before .before .pre, few c)
+mul-number-at : tie.Need-mul-number-at Inv-loop μ-loop
+mul-number-at c = search (needs, room c)
+
+add-number-at : tie.Need-add-number-at Inv-loop μ-loop
+add-number-at c = search (needs, room c)
+
+number-at-requires-2 : tie.Need-number-at-requires-2 Inv-loop μ-loop
+number-at-requires-2 c κs = omega (arith, room c)
+
+cast-entry : tie.Need-cast-entry Inv-loop μ-loop
+cast-entry c = search needs
 
 add-with-this : tie.Need-add-with-this Inv-loop μ-loop
-add-with-this c = search (needs, turn-64 (c .before .before .loop .inv .walk) (c .before .loop-test .taken))
+add-with-this c = search (needs, room (c .before))
 
 mul-is-met : tie.Need-mul-is-met Inv-loop μ-loop
 mul-is-met c = omega (arith, below (c .before))
@@ -62,7 +71,7 @@ is-met-requires c κs = tt
 tested : (c : tie.After-is-met Inv-loop μ-loop) → let l = c .before .before .before .before .loop in
     let a = c .before .before .before .before .before .before .before .args in
     metBy (getD (now (a .marks)) (next (l .bits)) 0) (a .time) (numberAt (now (a .frame)) (18 + 4 * l .visited) 4) ≡ c .is-met .result
-tested c = rw (← c .before .before .entry-behind .ensures) (sym (c .is-met .ensures))
+tested c = rw (← c .before .before .number-at2 .ensures .0) (sym (c .is-met .ensures))
 
 returns : tie.Need-returns Inv-loop μ-loop
 returns c =
@@ -98,10 +107,13 @@ ready-spec =
     (tie.spec
     Inv-loop
     μ-loop
-    mask-requires
+    number-at-requires
     loop-holds
     cast-panel
-    entry-behind-requires
+    mul-number-at
+    add-number-at
+    number-at-requires-2
+    cast-entry
     add-with-this
     mul-is-met
     element-copy-out-is-met

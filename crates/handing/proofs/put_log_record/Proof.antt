@@ -14,45 +14,45 @@ use Rattle.handing.proofs.LogRecord.{part-payload, put-logRecord}
 use Rattle.handing.proofs.put_log_record.Statement.{statement}
 use Rattle.handing.proofs.put_log_record.Tie as tie
 
-abbrev bytes : tie.After-mask → List ℕ
+abbrev bytes : tie.After-number-at → List ℕ
 bytes c = now (c .before .before .before .args .frame)
 
-passed : (c : tie.After-mask) → Passed 4 (bytes c)
+passed : (c : tie.After-number-at) → Passed 4 (bytes c)
 passed c = zero-passed 4 (bytes c) (c .before .before .before .pre .1)
 
-few : (c : tie.After-mask) → ones (c .mask .result) ≤ 64
-few c = ones-le 64 (c .mask .result) (c .mask .ensures .1)
+few : (c : tie.After-number-at) → ones (c .number-at .result) ≤ 64
+few c = ones-le 64 (c .number-at .result) (c .number-at .ensures .1)
 
-counted : (c : tie.After-mask) → ones (c .mask .result) ≡ countIn 4 (bytes c)
-counted c = sym (onesIn-ones 64 (c .mask .result) (c .mask .ensures .1)) ∙ ap (onesIn 64) (c .mask .ensures .0)
+counted : (c : tie.After-number-at) → ones (c .number-at .result) ≡ countIn 4 (bytes c)
+counted c = sym (onesIn-ones 64 (c .number-at .result) (c .number-at .ensures .1)) ∙ ap (onesIn 64) (c .number-at .ensures .0)
 
-abbrev start : tie.After-mask → ℕ
-start c = 19 + 4 * ones (c .mask .result)
+abbrev start : tie.After-number-at → ℕ
+start c = 19 + 4 * ones (c .number-at .result)
 
-room : (c : tie.After-mask) → start c ≤ length (bytes c)
+room : (c : tie.After-number-at) → start c ≤ length (bytes c)
 room c = omega (arith, counted c, passed c .room)
 
-sized : (c : tie.After-mask) → length (bytes c) - start c ≡ length (messageIn 4 (bytes c) .payload)
+sized : (c : tie.After-number-at) → length (bytes c) - start c ≡ length (messageIn 4 (bytes c) .payload)
 sized c = omega (arith, counted c, passed c .whole, length-payload 4 (bytes c) (passed c))
 
-fits : (c : tie.After-mask) → length (bytes c) - start c ≤ 32
+fits : (c : tie.After-number-at) → length (bytes c) - start c ≤ 32
 fits c = omega (arith, counted c, passed c .whole, passed c .payload)
 
-part : (c : tie.After-mask) → take (length (bytes c) - start c) (drop (start c) (bytes c)) ≡ messageIn 4 (bytes c) .payload
-part c = part-payload (bytes c) (ones (c .mask .result)) (counted c)
+part : (c : tie.After-number-at) → take (length (bytes c) - start c) (drop (start c) (bytes c)) ≡ messageIn 4 (bytes c) .payload
+part c = part-payload (bytes c) (ones (c .number-at .result)) (counted c)
 
 -- where the mask was read, from each call behind it
-abbrev mask3 : tie.After-put-number-arg3 → tie.After-mask
+abbrev mask3 : tie.After-put-number-arg3 → tie.After-number-at
 mask3 c = c .before .before .before .before .before .before .before .before .before .before .before
 
-abbrev mask4 : tie.After-put-zeros-arg → tie.After-mask
+abbrev mask4 : tie.After-put-zeros-arg → tie.After-number-at
 mask4 c = mask3 (c .before .before .before .before)
 
-abbrev mask5 : tie.After-put-bytes-arg → tie.After-mask
+abbrev mask5 : tie.After-put-bytes-arg → tie.After-number-at
 mask5 c = mask4 (c .before .before .before .before)
 
-mask-requires : tie.Need-mask-requires
-mask-requires c κs = c .before .before .pre .1
+number-at-requires : tie.Need-number-at-requires
+number-at-requires c κs = omega (arith, zero-passed 4 (now (c .before .before .args .frame)) (c .before .before .pre .1) .long)
 
 cast-start : tie.Need-cast-start
 cast-start c = omega (arith, few c)
@@ -122,7 +122,7 @@ pub put-log-record-spec : {M : Type 1} → statement M
 put-log-record-spec =
     tie.close
     (tie.spec
-    mask-requires
+    number-at-requires
     cast-start
     mul-start
     add-start

@@ -7,9 +7,9 @@ use borrow.Author.Needs.{needs}
 use denote.Ref.{now}
 use lib.ListN.{length, getD}
 use lib.Bits.{and-le-r}
-use Rattle.frame.specs.Reading.{countIn}
+use Rattle.frame.proofs.Passed.{zero-passed}
 use Rattle.slots.proofs.SetBits.{next}
-use Rattle.slots.proofs.Walk.{turn-lt, turn-few, turn-64}
+use Rattle.slots.proofs.Walk.{turn-lt, turn-room}
 use Rattle.handing.proofs.Shortening.{remains, ShortBelow, short-start, short-end, short-on}
 use Rattle.handing.proofs.shorten.Statement.{statement}
 use Rattle.handing.proofs.shorten.Tie as tie
@@ -20,28 +20,37 @@ Inv-loop barrier₀ frame bits₀ passed₀ barrier bits passed = ShortBelow fra
 abbrev μ-loop : tie.MeasureT-loop
 μ-loop barrier₀ frame bits₀ passed₀ barrier bits passed = bits
 
-mask-requires : tie.Need-mask-requires Inv-loop μ-loop
-mask-requires c κs = c .before .pre
+number-at-requires : tie.Need-number-at-requires Inv-loop μ-loop
+number-at-requires c κs = omega (arith, zero-passed 4 _ (c .before .pre) .long)
 
 loop-holds : tie.Need-loop-holds Inv-loop μ-loop
 loop-holds c =
     let a = c .before .before .args in
-    let (is, fits) = c .mask .ensures in
-    subst (λ (bits : ℕ). ShortBelow (now (a .frame)) (now (a .barrier)) (now (a .barrier)) bits 0) (sym is)
-    (short-start (now (a .frame)) (now (a .barrier)) (subst (λ (bits : ℕ). bits < 2 ^ 64) is fits))
+    let mask = c .number-at .ensures .0 in
+    subst (λ (bits : ℕ). ShortBelow (now (a .frame)) (now (a .barrier)) (now (a .barrier)) bits 0) (sym mask)
+    (short-start (now (a .frame)) (now (a .barrier)) (subst (λ (bits : ℕ). bits < 2 ^ 64) mask (c .number-at .ensures .1)))
 
--- in a turn the panel is one of 64, and its entry one of the frame's
+-- in a turn the panel is one of 64, and its entry stands within the frame
 below : (c : tie.In-loop Inv-loop μ-loop) → next (c .before .loop .bits) < 64
 below c = turn-lt (c .before .loop .inv .walk) (c .loop-test .taken)
 
-few : (c : tie.In-loop Inv-loop μ-loop) → c .before .loop .passed < countIn 4 (now (c .before .before .before .before .args .frame))
-few c = turn-few (c .before .loop .inv .walk) (c .loop-test .taken)
+room : (c : tie.In-loop Inv-loop μ-loop) → 18 + 4 * c .before .loop .passed + 4 ≤ length (now (c .before .before .before .before .args .frame))
+room c = turn-room (c .before .loop .inv .walk) (c .loop-test .taken) (c .before .before .before .before .pre)
 
 cast-panel : tie.Need-cast-panel Inv-loop μ-loop
 cast-panel c = omega (arith, below c)
 
-entry-behind-requires : tie.Need-entry-behind-requires Inv-loop μ-loop
-entry-behind-requires c κs = (c .before .before .before .before .pre, few c)
+mul-number-at : tie.Need-mul-number-at Inv-loop μ-loop
+mul-number-at c = search (needs, room c)
+
+add-number-at : tie.Need-add-number-at Inv-loop μ-loop
+add-number-at c = search (needs, room c)
+
+number-at-requires-2 : tie.Need-number-at-requires-2 Inv-loop μ-loop
+number-at-requires-2 c κs = omega (arith, room c)
+
+cast-carried : tie.Need-cast-carried Inv-loop μ-loop
+cast-carried c = search needs
 
 mul-remaining : tie.Need-mul-remaining Inv-loop μ-loop
 mul-remaining c = omega (arith, below (c .before))
@@ -62,9 +71,7 @@ sub-bits : tie.Need-sub-bits Inv-loop μ-loop
 sub-bits c = omega (arith, c .before .before .before .loop-test .taken)
 
 add-passed : tie.Need-add-passed Inv-loop μ-loop
-add-passed c =
-    let turn = c .before .before .before in
-    search (needs, turn-64 (turn .before .loop .inv .walk) (turn .loop-test .taken))
+add-passed c = search (needs, room (c .before .before .before))
 
 loop-less : tie.Need-loop-less Inv-loop μ-loop
 loop-less c =
@@ -77,7 +84,7 @@ loop-again c =
     let turn = c .before .before .before in
     let l = turn .before .loop in
     short-on _ _ _ _ _ (l .inv) (turn .loop-test .taken) (c .remaining .result)
-    (c .remaining .ensures ∙ ap (remains (getD (l .barrier) (next (l .bits)) 0)) (c .before .before .entry-behind .ensures))
+    (c .remaining .ensures ∙ ap (remains (getD (l .barrier) (next (l .bits)) 0)) (c .before .before .number-at2 .ensures .0))
 
 returns : tie.Need-returns Inv-loop μ-loop
 returns c = short-end _ _ _ _ _ (c .before .loop .inv) (c .loop-test .left)
@@ -88,10 +95,13 @@ shorten-spec =
     (tie.spec
     Inv-loop
     μ-loop
-    mask-requires
+    number-at-requires
     loop-holds
     cast-panel
-    entry-behind-requires
+    mul-number-at
+    add-number-at
+    number-at-requires-2
+    cast-carried
     mul-remaining
     element-copy-out-remaining
     remaining-requires

@@ -14,10 +14,13 @@ const YARDS: [u8; 3] = [8, 16, 64];
 const LOADS: [(&str, usize); 2] = [("quiet", 60), ("busy", 3)];
 /// Frames that are sent in a yard.
 const SENDS: usize = 1_500;
+/// One of so many frames that are given is lost.
+const LOST: usize = 4;
 const PAYLOAD: [u8; 8] = *b"corn 18%";
 const SEED: u64 = 204;
 
-/// What is done in a yard, by the places of its panels.
+/// What is done in a yard, by the places of its panels. Which frames of a contact are lost follows
+/// from its number.
 enum Event {
     Send(usize),
     Contact { giver: usize, taker: usize },
@@ -44,6 +47,9 @@ struct Yard {
     members: Vec<Member<second::Panel>>,
     logs: Vec<Vec<u8>>,
     frames: Vec<Vec<u8>>,
+    /// The contacts so far, and the messages that had to wait.
+    contacts: u32,
+    waited: usize,
     output: [u8; OUTPUT],
 }
 
@@ -59,28 +65,26 @@ impl Yard {
             members: (0..panels).map(member).collect(),
             logs: vec![Vec::new(); usize::from(panels)],
             frames: Vec::new(),
+            contacts: 0,
+            waited: 0,
             output: [0; OUTPUT],
         };
-        let mut contacts = 0;
         for event in events {
-            let time = contacts * 60 / u32::from(panels);
+            let time = yard.contacts * 60 / u32::from(panels);
             match event {
                 Event::Send(place) => yard.send(*place, time)?,
-                Event::Contact { giver, taker } => {
-                    contacts += 1;
-                    yard.contact(*giver, *taker, time)?;
-                }
+                Event::Contact { giver, taker } => yard.contact(*giver, *taker, time)?,
             }
         }
         Ok(yard)
     }
 
-    /// Takes down what a call wrote. No call is refused here.
+    /// Takes down what a call wrote. A call is refused here only where the waiting list is full.
     fn after(&mut self, place: usize, answer: Answer) -> Result<(), Found> {
         let written = &self.output[..answer.count * LOG_RECORD];
         self.logs[place].extend(written);
         match answer.number {
-            0 => Ok(()),
+            0 | 23 => Ok(()),
             number => Err(Found::new(format!(
                 "a call in a yard was refused: {number}"
             ))),
@@ -102,18 +106,23 @@ impl Yard {
         self.after(place, answer)
     }
 
-    /// One panel gives another all live frames that it holds and the other lacks.
+    /// One panel gives another all live frames that it holds and the other lacks, and some are lost.
     fn contact(&mut self, giver: usize, taker: usize, time: u32) -> Result<(), Found> {
+        self.contacts += 1;
+        let mut random = Random::new(SEED, u64::from(self.contacts));
         self.clock(taker, time)?;
         let frames = &self.frames;
         let live = |frame: &usize| compose::deadline_of(&frames[*frame]) >= time;
         self.members[giver].held.retain(live);
         let mut given = self.members[giver].held.clone();
-        given.retain(|frame| !self.members[taker].holds(*frame));
+        given.retain(|frame| !self.members[taker].holds(*frame) && random.below(LOST) != 0);
         for frame in given {
             let member = &mut self.members[taker];
             let answer = member.panel.receive(&self.frames[frame], &mut self.output);
-            member.hold(frame);
+            if answer.number == 0 {
+                member.hold(frame);
+                self.waited += usize::from(answer.count == 0);
+            }
             self.after(taker, answer)?;
         }
         Ok(())
@@ -123,8 +132,12 @@ impl Yard {
         self.frames.iter().map(Vec::len).sum()
     }
 
-    /// The logs are those of the yard with old panels, and no frame is longer than there.
+    /// The logs are those of the yard with old panels, and no frame is longer than there. Some
+    /// messages had to wait.
     fn compare(&self, old: &Yard) -> Result<(), Found> {
+        if self.waited == 0 {
+            return Err(Found::new("nothing had to wait in a yard"));
+        }
         if self.logs != old.logs {
             return Err(Found::new("other logs in a yard with new panels"));
         }

@@ -5,7 +5,7 @@ use native.Mathlib.Omega.{arith}
 use mathlib.Core.Path.{_≡_, refl, ap, _∙_}
 use mathlib.Core.Logic.{inl, inr, ⊎-elim, by-cases, _↔_, _≢_}
 use mathlib.Core.Bool.{Bool, true, false, _||_}
-use mathlib.Core.List.{List, [], _∷_}
+use mathlib.Core.List.{List, [], _∷_, map}
 use lib.ListN.{length, getD, take}
 use lib.Dec.{eqb, ltb}
 use borrow.Author.Tests.{eqb-true, ltb-false}
@@ -59,6 +59,13 @@ every-list gives promise calls lawful = demand-3 (ran gives calls) lawful (promi
     promised : (calls : List (ℕ × Make × Call)) → AllPromised (ran gives calls)
     promised [] = tt
     promised ((panel, make, call) ∷ earlier) = (promise (givenTo panel make (ran gives earlier)) call, promised earlier)
+
+-- So for every mixture: `makes` says of each panel which make it is of.
+pub every-mixture : (makes : ℕ → Make) (gives : Panel → Call → Result) → ((p : Panel) (call : Call) → Promised p call (gives p call))
+    → (calls : List (ℕ × Call))
+    → let list = ran gives (map (λ (next : ℕ × Call). (next .0, makes (next .0), next .1)) calls) in
+    Lawful list → Demand3 list
+every-mixture makes gives promise calls = every-list gives promise (map (λ (next : ℕ × Call). (next .0, makes (next .0), next .1)) calls)
 
 -- A mark is the largest deadline in this panel's log from that source; 0 means none.
 pub mark-largest : (list : List Made) → Lawful list → AllPromised list → (panel source : ℕ)

@@ -48,36 +48,36 @@ abbrev lineC : List ℕ
 lineC = logged (2 ∷ 0x00 ∷ 0x00 ∷ 0x01 ∷ 0x2c ∷ 0 ∷ [])
 
 -- marks of A, of A and B, of A, B and C
-abbrev markA : List ℕ
-markA = of ((0, 100) ∷ [])
+abbrev marksA : List ℕ
+marksA = of ((0, 100) ∷ [])
 
-abbrev markB : List ℕ
-markB = of ((0, 100) ∷ (1, 200) ∷ [])
+abbrev marksB : List ℕ
+marksB = of ((0, 100) ∷ (1, 200) ∷ [])
 
-abbrev markC : List ℕ
-markC = of ((0, 100) ∷ (1, 200) ∷ (2, 300) ∷ [])
+abbrev marksC : List ℕ
+marksC = of ((0, 100) ∷ (1, 200) ∷ (2, 300) ∷ [])
 
 -- panels 0, 1 and 2 send A, B and C; all are of that make
 unfoldable pub caseYard : Make → List Step
 caseYard make =
-    let panel1 = ofMake make (panelOf 1 0 100 markA markA []) in
-    let panel2 = ofMake make (panelOf 2 0 100 markA markA []) in
-    let with2 = ofMake make (panelOf 2 0 200 markB (barrierB make) []) in
-    step (ofMake make (fresh 0)) (send [] 100 output buffer) (sent (ofMake make (panelOf 0 0 100 markA markA [])) (lineA ∷ []) frameA)
+    let panel1 = ofMake make (panelOf 1 0 100 marksA marksA []) in
+    let panel2 = ofMake make (panelOf 2 0 100 marksA marksA []) in
+    let with2 = ofMake make (panelOf 2 0 200 marksB (barrierB make) []) in
+    step (ofMake make (fresh 0)) (send [] 100 output buffer) (sent (ofMake make (panelOf 0 0 100 marksA marksA [])) (lineA ∷ []) frameA)
     ∷ step (ofMake make (fresh 1)) (receive frameA output) (taken panel1 (lineA ∷ []))
-    ∷ step panel1 (send [] 200 output buffer) (sent (ofMake make (panelOf 1 0 200 markB (of ((1, 200) ∷ [])) [])) (lineB ∷ []) frameB)
+    ∷ step panel1 (send [] 200 output buffer) (sent (ofMake make (panelOf 1 0 200 marksB (of ((1, 200) ∷ [])) [])) (lineB ∷ []) frameB)
     ∷ step (ofMake make (fresh 2)) (receive frameA output) (taken panel2 (lineA ∷ []))
     ∷ step panel2 (receive frameB output) (taken with2 (lineB ∷ []))
-    ∷ step with2 (send [] 300 output buffer) (sent (ofMake make (panelOf 2 0 300 markC (of ((2, 300) ∷ [])) [])) (lineC ∷ []) (frameC make))
+    ∷ step with2 (send [] 300 output buffer) (sent (ofMake make (panelOf 2 0 300 marksC (of ((2, 300) ∷ [])) [])) (lineC ∷ []) (frameC make))
     ∷ []
 
--- panel 3, of one make, hears A, B and the C of a panel 2 of one make, and sends D
+-- panel 3, with A in its log, hears B and the C of a panel 2 of the one or the other make, and sends D
 unfoldable pub caseYardMixed : Make → Make → List Step
 caseYardMixed make other =
-    let panel3 = ofMake make (panelOf 3 0 200 markB (barrierB make) []) in
-    let with3 = ofMake make (panelOf 3 0 300 markC (barrierC make) []) in
+    let panel3 = ofMake make (panelOf 3 0 200 marksB (barrierB make) []) in
+    let with3 = ofMake make (panelOf 3 0 300 marksC (barrierC make) []) in
     let after = of ((0, 100) ∷ (1, 200) ∷ (2, 300) ∷ (3, 400) ∷ []) in
-    step (ofMake make (panelOf 3 0 100 markA markA [])) (receive frameB output) (taken panel3 (lineB ∷ []))
+    step (ofMake make (panelOf 3 0 100 marksA marksA [])) (receive frameB output) (taken panel3 (lineB ∷ []))
     ∷ step panel3 (receive (frameC other) output) (taken with3 (lineC ∷ []))
     ∷ step with3 (send [] 400 output buffer)
     (sent (ofMake make (panelOf 3 0 400 after (of ((3, 400) ∷ [])) [])) (logged (3 ∷ 0x00 ∷ 0x00 ∷ 0x01 ∷ 0x90 ∷ 0 ∷ []) ∷ []) (frameD make))

@@ -55,12 +55,15 @@
  * at most. When a message is handed, each barrier entry that is at most the entry this message
  * carries for the same panel is removed, before the message's own goes in: the barrier entry of its
  * source becomes the larger of itself and its deadline. A panel for which the message carries no
- * entry keeps its barrier entry. So a frame names the last messages that were handed, and these
- * name those before them: frames stay short at a busy yard.
+ * entry keeps its barrier entry. So a frame names only messages that no message handed after them
+ * names; it may still have PANEL_FRAME_MAX bytes. Nothing else takes barrier entries away but a
+ * send, which empties the barrier: no message that waits, is dropped or is refused, and no time.
  *
- * Old and new panels. Up to version 0.5 handing removed nothing, and frames were longer. Old and
- * new panels can share a farm: each reads the frames of the other, no setting is needed, and the
- * causal order of the logs holds in every mixture of the two.
+ * Old and new panels. A panel of version 0.5 removes nothing as it hands a message, and so sends
+ * longer frames; in all else it is as this one. The two can share a farm: each reads the frames of
+ * the other, no setting is needed, and the causal order of the logs holds in every mixture of the
+ * two. A panel may go on with the record that version 0.5 left, also while messages wait. (Panels
+ * before 0.5 differ in more: they take deadlines far ahead.)
  *
  * Deadlines far ahead. A panel with a wrong year would keep dead notes alive for everybody, so a
  * receive refuses, with 32, a deadline above time + PANEL_FARTHEST_AHEAD.
@@ -76,11 +79,12 @@
  *   had, is ahead; or the clock of this panel is behind, or was never set.
  *
  * Storing a record. It is plain data without pointers. It may be copied, or saved as its
- * sizeof(Panel) bytes and read back by the same version of this header. Go on with the record as
- * the last call left it, never with an older copy, which would hand messages again and give out a
- * deadline twice: so save it, and the log records, before the frame is passed on. A record that is
- * broken, as the words of 26 say, is refused with that number by each of the four calls. Other
- * damage, as in the time, they can't see: keep a checksum beside the record.
+ * sizeof(Panel) bytes and read back by the same version of this header, or by a later one that says
+ * so below (PANEL_VERSION). Go on with the record as the last call left it, never with an older
+ * copy, which would hand messages again and give out a deadline twice: so save it, and the log
+ * records, before the frame is passed on. A record that is broken, as the words of 26 say, is
+ * refused with that number by each of the four calls. Other damage, as in the time, they can't see:
+ * keep a checksum beside the record.
  *
  * Processor. The archive is for x86-64 with the System V calling convention, as on 64-bit Linux,
  * and for no other: the compiler that comes with the proofs makes code for that one only. The
@@ -107,8 +111,8 @@ extern "C" {
 /* ---- Version ---- */
 
 /* Major 0, as the layout of the record still changes with coming versions: a record that another
-   version saved is not to be read. (0.3 to 0.6 have the layout of 0.2, and each reads the records
-   of those before it.) Frames, bundles and logs keep the form of document 01. */
+   version saved is not to be read, but that 0.6 reads those of 0.2 to 0.5, which have its layout.
+   Frames, bundles and logs keep the form of document 01. */
 #define PANEL_VERSION_MAJOR 0
 #define PANEL_VERSION_MINOR 6
 #define PANEL_VERSION_PATCH 0
@@ -201,8 +205,7 @@ typedef struct Panel {
     uint32_t high;                    /* the largest deadline in the log, or 0 */
     size_t count;                     /* how many messages are waiting */
     uint32_t marks[PANEL_PANELS];     /* the largest deadline in the log from each source, or 0 */
-    uint32_t barrier[PANEL_PANELS];   /* the entries that the next frame carries, or 0; handing
-                                         puts them in, and removes some (see above) */
+    uint32_t barrier[PANEL_PANELS];   /* the entries that the next frame carries, or 0 */
     uint8_t slots[PANEL_SLOTS_BYTES]; /* the frames of the waiting messages, in the order taken;
                                          what stands behind them is no part of the record */
 } Panel;
@@ -229,10 +232,9 @@ typedef struct PanelAnswer {
  * Sends a payload of 0 to 32 bytes. The deadline of the message is the larger of time + lifetime
  * (0 means PANEL_LIFETIME_DEFAULT) and high + 1, however far ahead that is. Its frame stands at the
  * start of the frame buffer, `length` bytes, and carries the barrier entries as they were, each in
- * 4 bytes. Then the barrier is emptied, the own message is handed, which finds no barrier entry to
- * remove, and the panel settles: `count` log records, 1 to 33, stand one after another from the
- * start of the output, the own message first. Bytes behind the frame and behind the log records
- * keep their content.
+ * 4 bytes. Then the barrier is emptied, the own message is handed, and the panel settles: `count`
+ * log records, 1 to 33, stand one after another from the start of the output, the own message
+ * first. Bytes behind the frame and behind the log records keep their content.
  * Refused with the first of 26, 10, 9, 24 that applies.
  */
 PANEL_ANSWER PANEL_NOT_NULL
@@ -256,9 +258,7 @@ static inline PanelAnswer panel_beacon(Panel *panel, const uint8_t *payload, siz
  * Receives a frame, whole or damaged, of any length. Its message is handed if it is ready, that is
  * if for each entry the panel has had that message or the entry has lapsed; otherwise it waits.
  * Then the panel settles: `count` log records, 0 to 33, stand one after another from the start of
- * the output, and the bytes behind them keep their content. Each message that is handed, the one
- * received or one that waited, removes barrier entries (see above, handing); one that waits removes
- * none.
+ * the output, and the bytes behind them keep their content.
  * Refused with the first of 26, 10, 1 to 8 as by panel_frame_check, 20, 21, 32, 22, 23 that
  * applies. A frame that was refused with 32 may be received again when the time is nearer.
  */
@@ -270,8 +270,7 @@ static inline PanelAnswer panel_receive(Panel *panel, const uint8_t *frame, size
  * Sets the time. Waiting messages whose deadline is below it have lapsed: they are dropped, and
  * never handed. Then the panel settles, as entries below the time are waited for no longer: `count`
  * log records, 0 to 32, stand one after another from the start of the output, and the bytes behind
- * them keep their content. Each message that is handed removes barrier entries (see above,
- * handing); one that is dropped removes none, nor does the time.
+ * them keep their content.
  * Refused with the first of 26, 10, 25 that applies. The same time again is accepted.
  */
 PANEL_ANSWER PANEL_NOT_NULL

@@ -38,8 +38,9 @@ MOISTURE = frame(5, NEXT_DUE, {3: DUE}, b"moisture 19")
 LIFTED = frame(3, LATER_DUE, {5: NEXT_DUE}, b"hold lifted")
 HARVEST = bundle(LIFTED, MOISTURE, b"DRX" + HOLD[3:], HOLD, MOISTURE)
 
-# A chain of four panels, each of which has read all before it. Panel 3 is an old one, whose frame names both of them; panel 4 is a
-# new one, whose frame names the last alone. They come in the wrong order.
+# A chain of four panels, each of which has read all before it. Panel 3 is an old one, whose frame
+# names panels 1 and 2; panel 4 is a new one, whose frame names the last alone. They come in the
+# wrong order.
 OLD_AND_NEW = bundle(frame(4, 400, {3: 300}), frame(3, 300, {1: 100, 2: 200}), frame(2, 200, {1: 100}), frame(1, 100))
 
 # Bench cases 1 and 2 of document 01, with the deadlines of document 02, W-203.

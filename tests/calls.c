@@ -930,6 +930,13 @@ static const Step from_older_version[] = {
    is ready when 60 has lapsed. */
 #define OF_BORDERS {{0, 100}, {4, 101}, {5, 50}, {6, 70}}
 
+/* The record once the message of panel 1, or its next one, was handed: with this deadline, and this
+   mark of panel 5. */
+#define BORDERS_HANDED(now, deadline, mark_5) \
+    {.time = now, .high = deadline, \
+     .marks = {{0, 100}, {1, deadline}, {4, 101}, {5, mark_5}, {6, 70}}, \
+     .barrier = {{1, deadline}, {4, 101}, {6, 70}}}
+
 static const Record before_borders = {
     .time = 60, .high = 101, .marks = OF_BORDERS, .barrier = OF_BORDERS};
 
@@ -944,18 +951,17 @@ static const Step handed_at_once[] = {
      .number = PANEL_REFUSED_FRAME_LEFT_OVER},
     {__LINE__, RECEIVE, .at = 3, .bytes = BORDERS("03", "000000c8"),
      .number = PANEL_REFUSED_OWN_SOURCE},
+    {__LINE__, RECEIVE, .at = 3, .bytes = "445259 0001 07 0000003c 0000000000000020 00000032 00",
+     .number = PANEL_REFUSED_LAPSED},
     {__LINE__, RECEIVE, .at = 3, .bytes = BORDERS("01", "0012753e"),
      .number = PANEL_REFUSED_TOO_FAR_AHEAD},
     {__LINE__, RECEIVE, .at = 3, .bytes = BORDERS("04", "00000065"),
      .number = PANEL_REFUSED_HAD_ALREADY},
     {__LINE__, RECEIVE, .at = 3, .bytes = FROM_1_AT_BORDERS, .log = {"01 000000c8 00"},
-     .record = {.time = 61, .high = 200, .marks = {{0, 100}, {1, 200}, {4, 101}, {5, 50}, {6, 70}},
-                .barrier = {{1, 200}, {4, 101}, {6, 70}}}},
+     .record = BORDERS_HANDED(61, 200, 50)},
     /* the next of panel 1 names the one that was handed */
     {__LINE__, RECEIVE, .at = 3, .bytes = "445259 0001 01 0000012c 0000000000000002 000000c8 00",
-     .log = {"01 0000012c 00"},
-     .record = {.time = 61, .high = 300, .marks = {{0, 100}, {1, 300}, {4, 101}, {5, 50}, {6, 70}},
-                .barrier = {{1, 300}, {4, 101}, {6, 70}}}},
+     .log = {"01 0000012c 00"}, .record = BORDERS_HANDED(61, 300, 50)},
 };
 
 /* It waits, and is handed by settling: 60 lapses, or the message of panel 5 comes in. */
@@ -966,12 +972,9 @@ static const Step waits_first = {
 
 static const Step handed_by_settling[] = {
     {__LINE__, CLOCK, .at = 3, .value = 61, .log = {"01 000000c8 00"},
-     .record = {.time = 61, .high = 200, .marks = {{0, 100}, {1, 200}, {4, 101}, {5, 50}, {6, 70}},
-                .barrier = {{1, 200}, {4, 101}, {6, 70}}}},
+     .record = BORDERS_HANDED(61, 200, 50)},
     {__LINE__, RECEIVE, .at = 3, .bytes = "445259 0001 05 0000003c 0000000000000000 00",
-     .log = {"05 0000003c 00", "01 000000c8 00"},
-     .record = {.time = 60, .high = 200, .marks = {{0, 100}, {1, 200}, {4, 101}, {5, 60}, {6, 70}},
-                .barrier = {{1, 200}, {4, 101}, {6, 70}}}},
+     .log = {"05 0000003c 00", "01 000000c8 00"}, .record = BORDERS_HANDED(60, 200, 60)},
     /* or it is dropped */
     {__LINE__, CLOCK, .at = 3, .value = 201,
      .record = {.time = 201, .high = 101, .marks = OF_BORDERS, .barrier = OF_BORDERS}},
@@ -1165,6 +1168,9 @@ static void full_order(void)
     receive_full(__LINE__, "445259 0001 02 00000083 0000000000000002 00000032 00",
                  PANEL_REFUSED_HAD_ALREADY);
     receive_full(__LINE__, "445259 0001 04 00000065 0000000000000002 00000032 00",
+                 PANEL_REFUSED_LIST_FULL);
+    /* one that names the barrier entry too, which stays */
+    receive_full(__LINE__, "445259 0001 04 00000065 0000000000000012 00000032 00000064 00",
                  PANEL_REFUSED_LIST_FULL);
     receive_full(__LINE__, "445259 0001 04 00127500 0000000000000002 00000032 00",
                  PANEL_REFUSED_LIST_FULL);

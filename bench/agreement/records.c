@@ -28,7 +28,7 @@ void random_panel(Panel *panel)
     for (int s = 0; s < PANELS; s++) {
         if (chance(400))
             panel->marks[s] = plus(about, (int64_t)random_below(100) - 50);
-        if (chance(400)) /* often at the mark, which entries lie about */
+        if (chance(400)) /* half of them at the mark, near which entries of frames lie */
             panel->barrier[s] = chance(500) ? panel->marks[s]
                                             : plus(about, (int64_t)random_below(100) - 50);
         if (panel->high < panel->marks[s])

@@ -7,11 +7,9 @@
 //! returns 2 KB; a `Panel` has 10 KB, twice that while `Panel::fresh` makes it. Nothing is
 //! allocated.
 //!
-//! The barrier of a panel has the entries that its next frame carries. When a message is handed,
-//! each barrier entry that is at most the entry this message carries for the same panel is removed,
-//! before the message's own goes in: frames stay short at a busy yard. Panels older than version
-//! 0.6 removed nothing. Old and new panels can share a farm: each reads the frames of the other, no
-//! setting is needed, and the causal order of the logs holds in every mixture of the two.
+//! Panels of version 0.5 can share a farm with these: they send longer frames, as they remove no
+//! barrier entries when they hand a message, and in all else are the same. Each reads the frames of
+//! the other, no setting is needed, and the causal order of the logs holds in every mixture.
 #![no_std]
 
 use core::fmt;
@@ -568,10 +566,9 @@ impl Panel {
         Ok((frame, log))
     }
 
-    /// Receives the bytes of a frame, whole or damaged. Its message is handed if it is ready, and
-    /// waits otherwise; each message that is handed removes barrier entries. A deadline above the
-    /// time and `FARTHEST_AHEAD` is refused with `Refusal::TooFarAhead`. Such a frame may be
-    /// received again, and is taken once the time is near enough.
+    /// Receives the bytes of a frame, whole or damaged. A deadline above the time and
+    /// `FARTHEST_AHEAD` is refused with `Refusal::TooFarAhead`. Such a frame may be received again,
+    /// and is taken once the time is near enough.
     pub fn receive(&mut self, frame: &[u8]) -> Result<Log, Refusal> {
         let mut log = Log::new();
         // SAFETY: the frame is a slice, the output an array of this function; both are passed with
@@ -596,8 +593,7 @@ impl Panel {
         Ok(log)
     }
 
-    /// Sets the time, drops what has lapsed, and settles. Each message that is handed removes
-    /// barrier entries; the time removes none.
+    /// Sets the time, drops what has lapsed, and settles.
     pub fn clock(&mut self, time: u32) -> Result<Log, Refusal> {
         let mut log = Log::new();
         // SAFETY: the output is an array of this function, passed with its length.

@@ -3,9 +3,9 @@ use mathlib.Core.Path.{_≡_, _∙_}
 use mathlib.Core.Bool.{true, false}
 use mathlib.Core.Logic.{_≢_}
 use mathlib.Core.List.{List, [], _∷_}
-use Prim.Native.Nat.{ℕ, _≤_}
+use Prim.Native.Nat.{ℕ, _≤_, _<_}
 use native.Mathlib.Omega.{arith}
-use lib.ListN.{length, take}
+use lib.ListN.{length, getD, take}
 use Rattle.numbers.specs.Numbers.{Bytes}
 use Rattle.frame.specs.Message.{Message}
 use Rattle.frame.specs.Frame.{frame}
@@ -14,6 +14,7 @@ use Rattle.frame.specs.Readable.{readable}
 use Rattle.frame.proofs.Theorems.{reading-frame, frame-reading}
 use Rattle.rules.specs.Sizes.{width, outputLength}
 use Rattle.rules.specs.Panel.{Name, Make, oldMake, Panel}
+use Rattle.rules.specs.Handing.{hand}
 use Rattle.rules.specs.Calls.{newMessage}
 use Rattle.rules.specs.Refusals.{tooFarAhead, Listed, freshNumber}
 use Rattle.rules.specs.Results.{Call, send, receive, outputOf, bufferOf, effectOf, refused, defined}
@@ -21,13 +22,13 @@ use Rattle.rules.specs.Visiting.{Counted, trace}
 use Rattle.rules.specs.Lists.{recordAt, givenTo, sends, Before, Lawful}
 use Rattle.rules.specs.Demand3.{Demand3}
 use Rattle.rules.specs.FarAhead.{FarAhead}
-use Rattle.rules.specs.Barriers.{OwnGoesIn, asOld, NoLonger, StaysOrGoes}
+use Rattle.barriers.specs.Barriers.{asOld, NoLonger, StaysOrGoes}
 use Rattle.rules.proofs.Theorems.{demand-3, number-listed, reading-listed, fresh-listed, trace-listed, refusal-unchanged, sent-reads, trace-waits-reached}
 use Rattle.rules.proofs.Visiting.{visits-counted}
 use Rattle.rules.proofs.Tracing.{trace-number, trace-handed}
 use Rattle.rules.proofs.FarAhead.{far-ahead, causes-near}
 use Rattle.rules.proofs.Shortened.{own-goes-in}
-use Rattle.rules.proofs.Barriers.{no-longer, stays-or-goes}
+use Rattle.barriers.proofs.Barriers.{no-longer, stays-or-goes}
 use Rattle.exports.proofs.Fresh.{freshRecord-within}
 use Rattle.demands.specs.Beginning.{BeginsInPlace, BeginsByValue}
 use Rattle.demands.specs.Lists.{FarmCall, farm, Follows}
@@ -76,8 +77,8 @@ pub record Demands (M : Type 1) : Type 2 where
       Before (sends made) x y → tooFarAhead (recordAt panel made) (y .deadline) ≡ false → tooFarAhead (recordAt panel made) (x .deadline) ≡ false
   -- Document 02, W-204: whatever frames are given, a panel of either make has no barrier entry above that which the old rule gives on the same
   -- calls, and sends no longer frame, and nothing else is changed; after lists of demand 3, an entry is that of the old rule, or removed. The
-  -- message's own goes in last.
-  pub own-goes-in : (p : Panel) (m : Message) → OwnGoesIn p m
+  -- message's own goes in last: whatever entries it carries, the barrier entry of its source is at least its deadline once it was handed.
+  pub own-goes-in : (p : Panel) (m : Message) → m .source < length (p .barrier) → m .deadline ≤ getD (hand p m .barrier) (m .source) 0
   pub no-longer : (list : List FarmCall) → Follows list → (panel : ℕ) (make : Make)
       → NoLonger (givenTo panel oldMake (asOld (farm list))) (givenTo panel make (farm list))
   pub stays-or-goes : (list : List FarmCall) → Follows list → Lawful (farm list) → (panel : ℕ)

@@ -1,4 +1,4 @@
--- Lists of calls of the module itself.
+-- Lists of calls in a farm: those of the module itself, and those of other panels.
 pub mod Runs
 pub mod Functions
 pub mod Beginning

@@ -1,5 +1,6 @@
-// Handing: barrier entries that the message covers are removed; its log record goes behind those before
-// it, and high, its source's mark and barrier entry become at least its deadline. An internal crate.
+// Handing: barrier entries that are at most the message's for the same panel are removed; its log record
+// goes behind those before it, and high, its source's mark and barrier entry become at least its
+// deadline. An internal crate.
 // Preconditions: readable frames, and room in the output; the calls of a panel refuse anything else.
 use numbers::number_at;
 use numbers::put_bytes;
@@ -52,8 +53,9 @@ fn larger(a: u32, b: u32) -> u32
     b
 }
 
-// Puts the message of a readable frame into the log, and answers the record's new high. Its log record
-// stands behind those of the messages handed before it.
+// Puts the message of a readable frame into the log, raises its source's mark and barrier entry to at
+// least its deadline, and answers the record's new high. Its log record stands behind those of the
+// messages handed before it.
 pub fn put_in_log(
     high: u32,
     handed: usize,

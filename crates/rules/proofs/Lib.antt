@@ -24,9 +24,6 @@ pub mod ReceiveStep
 pub mod ClockStep
 pub mod Reached
 pub mod Results
-pub mod BesideOld
-pub mod BesideCalls
-pub mod Barriers
 pub mod Tracing
 pub mod FarAhead
 pub mod Theorems

@@ -64,8 +64,8 @@ twice gives = ran gives ((0, newMake, receive frame1 output) ∷ (0, newMake, re
 pub crossed : (Panel → Call → Result) → List Made
 crossed gives = ran gives ((0, newMake, receive frame1 output) ∷ (0, newMake, receive frame2 output) ∷ (3, newMake, send [] 0 output buffer) ∷ holdSent)
 
--- whoever unfolds these unfolds all definitions of lists, and these lists
-listsOpened : Unit {0}
+-- whoever unfolds these unfolds all definitions of lists, and then these lists
+unfoldable pub listsOpened : Unit {0}
 unfolding callsOpened fresh recordAt framesSent framesTaken sentAt takenAt namesIn logAt timeAfter timeAt sends Given
 listsOpened = tt
 

@@ -14,7 +14,6 @@ use borrow.Author.Tests.{leb-true, lt-leb}
 use Rattle.frame.specs.Message.{Message}
 use Rattle.rules.specs.Panel.{Make, oldMake, newMake, Panel, none64}
 use Rattle.rules.specs.Handing.{raise, shortened, barrierFor, hand}
-use Rattle.rules.specs.Barriers.{OwnGoesIn}
 use Rattle.rules.proofs.Booleans.{cond-both}
 use Rattle.rules.proofs.Raise.{length-raise, raise-same, raise-other}
 
@@ -80,8 +79,8 @@ getD-shortened (b ∷ barrier) (entry ∷ entries) (suc k) = getD-shortened barr
 
 -- ---- the message's own
 
--- whatever entries a message carries, its own deadline stands in the barrier once it was handed
-pub own-goes-in : (p : Panel) (m : Message) → OwnGoesIn p m
+-- whatever entries a message carries, the barrier entry of its source is at least its deadline once it was handed
+pub own-goes-in : (p : Panel) (m : Message) → m .source < length (p .barrier) → m .deadline ≤ getD (hand p m .barrier) (m .source) 0
 unfolding hand
 own-goes-in p m lt =
     let b = barrierFor (p .make) p m in

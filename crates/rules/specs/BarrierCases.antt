@@ -106,7 +106,8 @@ caseRemoved =
     (taken (panelOf 3 61 200 has left []) (logged (4 ∷ 0x00 ∷ 0x00 ∷ 0x00 ∷ 0x65 ∷ 0 ∷ []) ∷ line ∷ []))
     ∷ []
 
--- ---- Its own goes in after the removal. Panel 3 has 200 of panel 1 in its log, and hears panel 1's next, 300, which names it
+-- ---- The entry of the message's own panel is removed, and its own goes in. Panel 3 has 200 of panel 1 in its log, and hears panel 1's next,
+-- 300, which names it.
 
 unfoldable pub caseOwn : List Step
 caseOwn =

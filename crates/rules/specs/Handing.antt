@@ -26,8 +26,9 @@ unfoldable pub barrierFor : Make → Panel → Message → List ℕ
 barrierFor oldMake p m = p .barrier
 barrierFor newMake p m = shortened (p .barrier) (m .entries)
 
--- Handing: the mark and the barrier entry of its source each become the larger of themselves and its deadline; high becomes the larger of
--- itself and the deadline. (One log record is written to the output: `done` writes those of all messages handed.)
+-- Handing: barrier entries are removed (`barrierFor`); then the mark and the barrier entry of its source each become the larger of themselves and
+-- its deadline; high becomes the larger of itself and the deadline. (One log record is written to the output: `done` writes those of all messages
+-- handed.)
 unfoldable pub hand : Panel → Message → Panel
 hand p m =
     record {

@@ -41,7 +41,7 @@ unfoldable pub recordAt : ℕ → List Made → Panel
 recordAt panel [] = fresh panel
 recordAt panel (made ∷ earlier) = cond (on panel made) (made .result .panel) (recordAt panel earlier)
 
--- that record for a call of a panel of that make
+-- the record that the next call on that panel works on, as a panel of that make does
 abbrev pub givenTo : ℕ → Make → List Made → Panel
 givenTo panel make earlier = ofMake make (recordAt panel earlier)
 

@@ -9,14 +9,14 @@ use mathlib.Core.Option.{Option, none, some}
 use mathlib.Core.List.{List, [], _∷_, _++_}
 use lib.ListN.{length, getD}
 use Rattle.frame.specs.Message.{Message, messageOf}
 use Rattle.rules.specs.Panel.{Make, oldMake, Panel, none64, lapsed, met, ready}
 use Rattle.rules.specs.Handing.{raise, barrierFor, hand, logRecord, logRecords}
 use Rattle.rules.specs.Settling.{choice, chosen, without, withWaiting, Settled, waitingAt, handThen, goOn, settleIn, settle}
 use Rattle.rules.specs.Calls.{emptied, withTime}
 use Rattle.rules.specs.Results.{done}
-use Rattle.rules.specs.Barriers.{withBarrier}
+use Rattle.barriers.specs.Barriers.{withBarrier}
 use Rattle.rules.proofs.Raise.{length-raise, raise-mono, raise-bound, getD-none64, length-none64}
 use Rattle.rules.proofs.Shortened.{getD-barrierFor, length-barrierFor}
 
 -- ---- the record of the old make, and a barrier beside its own
 

@@ -1,21 +1,13 @@
--- Document 02, W-204: what is shown of shorter barriers, beside demand 3 (`own-goes-in` of `Shortened`; `no-longer` and `stays-or-goes` of
--- `Barriers`): a panel that is of either make, or is brought from one to the other, beside one that was of the old make at the same calls.
-use Prim.Native.Nat.{ℕ, _≤_, _<_}
+-- Document 02, W-204, shorter barriers: a panel that is of either make, or is brought from one to the other, beside one that was of the old make
+-- at the same calls (`no-longer` and `stays-or-goes` in proofs/Barriers.antt).
+use Prim.Native.Nat.{ℕ, _≤_}
 use mathlib.Core.Path.{_≡_}
 use mathlib.Core.Logic.{_⊎_}
 use mathlib.Core.List.{List, map}
-use lib.ListN.{length, getD}
-use Rattle.frame.specs.Message.{Message}
+use lib.ListN.{getD}
 use Rattle.rules.specs.Panel.{Make, oldMake, Panel}
-use Rattle.rules.specs.Handing.{hand}
 use Rattle.rules.specs.Results.{Call, defined}
 use Rattle.rules.specs.Lists.{Made, ran}
-
--- "Before the message's own goes in": whatever entries a message carries, its own deadline stands in the barrier once it was handed.
-abbrev pub OwnGoesIn : Panel → Message → Type 0
-OwnGoesIn p m = m .source < length (p .barrier) → m .deadline ≤ getD (hand p m .barrier) (m .source) 0
-
--- ---- beside the old rule
 
 -- the same calls, with the same frames, at panels of the old make
 abbrev pub asOld : List Made → List Made
@@ -32,7 +24,7 @@ pub record NoLonger (old new : Panel) : Type 0 where
   pub alike : new ≡ withBarrier old (new .make) (new .barrier)
   -- no barrier entry is above that of the old rule;
   pub at-most : (panel : ℕ) → getD (new .barrier) panel 0 ≤ getD (old .barrier) panel 0
-  -- a further call answers the same, writes the same log records,
+  -- a further call answers the same number and count, and writes the same log records,
   pub number : (call : Call) → defined new call .number ≡ defined old call .number
   pub count : (call : Call) → defined new call .count ≡ defined old call .count
   pub output : (call : Call) → defined new call .output ≡ defined old call .output

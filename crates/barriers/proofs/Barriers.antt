@@ -8,15 +8,15 @@ use mathlib.Core.Bool.{Bool, true, false, cond}
 use mathlib.Core.List.{List, [], _∷_}
 use lib.ListN.{getD}
 use lib.Dec.{eqb}
 use Rattle.rules.specs.Panel.{Make, oldMake, newMake, Panel, none64, fresh, ofMake}
 use Rattle.rules.specs.Results.{Call, Result, defined}
 use Rattle.rules.specs.Lists.{Made, recordAt, givenTo, logAt, sends, Lawful, AllPromised}
-use Rattle.rules.specs.Barriers.{asOld, withBarrier, NoLonger, StaysOrGoes}
+use Rattle.barriers.specs.Barriers.{asOld, withBarrier, NoLonger, StaysOrGoes}
 use Rattle.rules.proofs.Raise.{getD-none64, length-none64}
 use Rattle.rules.proofs.Sound.{SummarySound}
 use Rattle.rules.proofs.Reached.{list-sound}
-use Rattle.rules.proofs.BesideOld.{Beside}
-use Rattle.rules.proofs.BesideCalls.{BesideResult, defined-beside}
+use Rattle.barriers.proofs.BesideOld.{Beside}
+use Rattle.barriers.proofs.BesideCalls.{BesideResult, defined-beside}
 
 -- ---- after every list
 

@@ -12,14 +12,14 @@ use Rattle.frame.specs.Refusal.{firstOf}
 use Rattle.frame.specs.Reading.{messageIn}
 use Rattle.frame.proofs.EachNumber.{lt-eachBelow}
 use Rattle.frame.proofs.Places.{length-frame}
 use Rattle.rules.specs.Sizes.{width}
 use Rattle.rules.specs.Panel.{Make, Panel, none64, lapsed, met, ready}
 use Rattle.rules.specs.Settling.{withWaiting, handThen, settle}
 use Rattle.rules.specs.Calls.{handAndSettle, sendDeadline, newMessage, emptied, sending, receiving, withTime, alive, dropLapsed, clocking}
 use Rattle.rules.specs.Refusals.{someAbove, broken, tooFarAhead, sendChecks, messageChecks, receiveChecks, clockChecks}
 use Rattle.rules.specs.Results.{Call, send, receive, clock, outputOf, bufferOf, checksOf, effectOf, frameOf, Result, refused, done, unless, defined}
-use Rattle.rules.specs.Barriers.{withBarrier}
-use Rattle.rules.proofs.BesideOld.{Beside, beside-waiting, beside-time, beside-emptied, BesideSettled, handThen-beside, settle-beside}
+use Rattle.barriers.specs.Barriers.{withBarrier}
+use Rattle.barriers.proofs.BesideOld.{Beside, beside-waiting, beside-time, beside-emptied, BesideSettled, handThen-beside, settle-beside}
 
 -- ---- what a call does
 

@@ -1,0 +1,2 @@
+-- Document 02, W-204: shorter barriers beside the old rule.
+pub mod Barriers

@@ -5,13 +5,12 @@
 use numbers::number_at;
 use numbers::put_bytes;
 use numbers::put_number;
+use shortening::shorten;
 use slots::deadline;
 use slots::source;
 ghost use mathlib.Core.Path.{_≡_};
 ghost use Prim.Native.Nat.{_+_, _*_, _≤_, max};
-ghost use mathlib.Core.Bool.{cond};
 ghost use lib.ListN.{length, replicate};
-ghost use lib.Dec.{leb};
 ghost use Rattle.numbers.specs.Buffer.{over};
 ghost use Rattle.frame.specs.Reading.{messageIn};
 ghost use Rattle.rules.specs.Handing.{raise, shortened, logRecord};
@@ -77,34 +76,6 @@ pub fn put_in_log(
     marks[source] = larger(marks[source], deadline);
     barrier[source] = larger(barrier[source], deadline);
     larger(high, deadline)
-}
-
-// What is left of a barrier entry, where a message carries an entry for the same panel: none, which is
-// 0, if it is at most that one.
-fn remaining(entry: u32, carried: u32) -> u32
-    ensures { λ r. ⌜ r ≡ cond (leb entry carried) 0 entry ⌝ }
-{
-    if entry <= carried {
-        return 0;
-    }
-    entry
-}
-
-// Removes each barrier entry that is at most the entry which the message of a readable frame carries
-// for the same panel: from set bit to set bit of its mask.
-fn shorten(barrier: &mut [u32; 64], frame: &[u8])
-    requires { ⌜ Reads (now frame) ⌝ }
-    ensures { λ _. ⌜ now (barrier .exit) ≡ shortened (now (barrier .entry)) (messageIn 4 (now (frame .entry)) .entries) ⌝ }
-{
-    let mut bits = number_at(frame, 10, 8);
-    let mut passed = 0;
-    while bits != 0 {
-        let panel = u64::trailing_zeros(bits) as usize;
-        let carried = number_at(frame, 18 + 4 * passed, 4) as u32;
-        barrier[panel] = remaining(barrier[panel], carried);
-        bits = bits & (bits - 1);
-        passed += 1;
-    }
 }
 
 // Hands the message of a readable frame, and answers the record's new high: the barrier is shortened,

@@ -1,8 +1,8 @@
--- `handing::remaining` meets its contract. Assumes nothing.
+-- `shortening::remaining` meets its contract. Assumes nothing.
 use borrow.Author.Tests.{le-leb, lt-leb}
 use native.Mathlib.Omega.{arith}
-use Rattle.handing.proofs.remaining.Statement.{statement}
-use Rattle.handing.proofs.remaining.Tie as tie
+use Rattle.shortening.proofs.remaining.Statement.{statement}
+use Rattle.shortening.proofs.remaining.Tie as tie
 
 returns : tie.Need-returns
 returns c = let a = c .before .args in simp (le-leb (a .entry) (a .carried) (omega (arith, c .if1 .taken)))

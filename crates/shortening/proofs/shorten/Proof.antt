@@ -1,4 +1,4 @@
--- `handing::shorten` meets its contract. Its loop's invariant is `ShortBelow`: below the panel that the walk has come to, the barrier is as it is
+-- `shortening::shorten` meets its contract. Its loop's invariant is `ShortBelow`: below the panel that the walk has come to, the barrier is as it is
 -- to be. Assumes nothing.
 use mathlib.Core.Path.{sym, ap, _∙_, subst}
 use Prim.Native.Nat.{ℕ, _+_, _-_, _*_, _^_, _≤_, _<_}
@@ -10,9 +10,9 @@ use lib.Bits.{and-le-r}
 use Rattle.frame.proofs.Passed.{zero-passed}
 use Rattle.slots.proofs.SetBits.{next}
 use Rattle.slots.proofs.Walk.{turn-lt, turn-room}
-use Rattle.handing.proofs.Shortening.{remains, ShortBelow, short-start, short-end, short-on}
-use Rattle.handing.proofs.shorten.Statement.{statement}
-use Rattle.handing.proofs.shorten.Tie as tie
+use Rattle.shortening.proofs.Shortening.{remains, ShortBelow, short-start, short-end, short-on}
+use Rattle.shortening.proofs.shorten.Statement.{statement}
+use Rattle.shortening.proofs.shorten.Tie as tie
 
 abbrev Inv-loop : tie.InvT-loop
 Inv-loop barrier₀ frame bits₀ passed₀ barrier bits passed = ShortBelow frame barrier₀ barrier bits passed

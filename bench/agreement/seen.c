@@ -78,8 +78,8 @@ void print_seen(void)
            sum(handed_seen, 8, 31), handed_seen[32], handed_seen[33]);
     printf("waiting after accepted calls: none %lu, 1 to 31 %lu, 32 %lu\n", waiting_seen[0],
            sum(waiting_seen, 1, WAITING_MAX - 1), waiting_seen[WAITING_MAX]);
-    printf("barrier entries that a receive or clock call found and removed: none %lu, 1 %lu, "
-           "2 to 7 %lu, 8 to 63 %lu\n", removed_seen[0], removed_seen[1], sum(removed_seen, 2, 7),
+    printf("barrier entries removed by receives and clock calls: none %lu, 1 %lu, 2 to 7 %lu, "
+           "8 to 63 %lu\n", removed_seen[0], removed_seen[1], sum(removed_seen, 2, 7),
            sum(removed_seen, 8, PANELS - 1));
     print_visits("ready", visits_seen[true]);
     print_visits("not ready", visits_seen[false]);

@@ -13,6 +13,12 @@ pub enum Make {
     New,
 }
 
+/// The rule of W-204: whether a barrier entry is at most the one that a message carries for the
+/// same panel.
+fn at_most_carried(carried: &Barrier, panel: u8, entry: u32) -> bool {
+    carried.get(&panel).is_some_and(|carried| entry <= *carried)
+}
+
 impl Panel {
     /// Whether this is a panel of the old make, with this fault planted.
     pub fn old_with(&self, fault: Fault) -> bool {
@@ -21,13 +27,17 @@ impl Panel {
 
     /// Removes the barrier entries that a message makes superfluous as it is handed.
     pub fn remove_carried(&mut self, message: &Message) {
-        let goes = |panel: u8, entry: u32| match self.make {
-            Make::Old => self.old_removes(message, panel, entry),
-            Make::New => self.removes_now(message) && self.removes(message, panel, entry),
+        let carried = &message.predecessors;
+        let goes = |panel: u8, entry: u32| {
+            let by_the_rule = self.make == Make::New && at_most_carried(carried, panel, entry);
+            let mistaken = match self.make {
+                Make::Old => self.goes_from_old(message, panel, entry),
+                Make::New => self.goes_from_new(message, panel, entry),
+            };
+            mistaken.unwrap_or(by_the_rule)
         };
-        let entries = self.barrier.iter();
+        let entries = self.barrier.iter().map(|(panel, entry)| (*panel, *entry));
         let removed: Barrier = entries
-            .map(|(panel, entry)| (*panel, *entry))
             .filter(|(panel, entry)| goes(*panel, *entry))
             .collect();
         for panel in removed.keys() {
@@ -36,41 +46,39 @@ impl Panel {
         self.change_by_removal(&removed);
     }
 
-    /// Whether handing this message removes a barrier entry: whether the entry is at most the one
-    /// that the message carries for the same panel, but for planted faults.
-    fn removes(&self, message: &Message, panel: u8, entry: u32) -> bool {
+    /// Whether a barrier entry goes by a planted fault that comes in front of the rule.
+    fn goes_from_new(&self, message: &Message, panel: u8, entry: u32) -> Option<bool> {
         let entries = &message.predecessors;
         let carried = entries.get(&panel).copied();
-        let up_to = |limit: Option<u32>| limit.is_some_and(|limit| entry <= limit);
-        match which() {
-            Some(Fault::EqualEntryStays) => up_to(carried.map(|carried| carried - 1)),
-            Some(Fault::OnlyEqualEntryRemoved) => carried == Some(entry),
-            Some(Fault::EntryOneAboveRemoved) => {
-                up_to(carried.map(|carried| carried.saturating_add(1)))
-            }
-            Some(Fault::EntryAboveRemoved) => carried.is_some(),
-            Some(Fault::RemovedByTheMark) => {
-                up_to(carried.and(self.delivered.get(&panel).copied()))
-            }
-            Some(Fault::RemovedByTheHighest) => up_to(entries.values().max().copied()),
-            Some(Fault::RemovedByTheDeadline) => entry <= message.deadline,
-            Some(Fault::NotCarriedRemoved) => up_to(carried.or(Some(u32::MAX))),
-            Some(Fault::RemovedPlaceByPlace) => {
+        let up_to = |limit: Option<u32>| Some(limit.is_some_and(|limit| entry <= limit));
+        match which()? {
+            Fault::EqualEntryStays => up_to(carried.map(|carried| carried - 1)),
+            Fault::OnlyEqualEntryRemoved => Some(carried == Some(entry)),
+            Fault::EntryOneAboveRemoved => up_to(carried.map(|carried| carried.saturating_add(1))),
+            Fault::EntryAboveRemoved => Some(carried.is_some()),
+            Fault::RemovedByTheMark => up_to(carried.and(self.delivered.get(&panel).copied())),
+            Fault::RemovedByTheHighest => up_to(entries.values().max().copied()),
+            Fault::RemovedByTheDeadline => Some(entry <= message.deadline),
+            Fault::NotCarriedRemoved => up_to(carried.or(Some(u32::MAX))),
+            Fault::RemovedPlaceByPlace => {
                 let place = self.barrier.keys().position(|named| *named == panel);
                 up_to(place.and_then(|place| entries.values().nth(place).copied()))
             }
-            Some(Fault::PlaceTakenForPanel) => {
-                up_to(entries.values().nth(usize::from(panel)).copied())
-            }
-            Some(Fault::LapsedEntriesRemoved) => up_to(carried) || entry < self.time,
-            _ => up_to(carried) && !self.wrongly_stays(entries, panel, entry),
+            Fault::PlaceTakenForPanel => up_to(entries.values().nth(usize::from(panel)).copied()),
+            Fault::LapsedEntriesRemoved if entry < self.time => Some(true),
+            _ => self.wrongly_stays(message, panel, entry).then_some(false),
         }
     }
 
-    /// Whether a planted fault keeps a barrier entry that is at most the carried one.
-    fn wrongly_stays(&self, entries: &Barrier, panel: u8, entry: u32) -> bool {
+    /// Whether a planted fault keeps a barrier entry, whatever the rule says.
+    fn wrongly_stays(&self, message: &Message, panel: u8, entry: u32) -> bool {
+        let entries = &message.predecessors;
         let carried = entries.get(&panel).copied().unwrap_or(0);
         match which() {
+            Some(Fault::OldRuleAtNewPanel) => true,
+            Some(Fault::SettlingRemovesNothing) => self.settling,
+            Some(Fault::OnlySettlingRemoves) => !self.settling,
+            Some(Fault::BarrierNotEmptied) => message.source == self.own,
             Some(Fault::FirstCarriedOnly) => entries.keys().next() != Some(&panel),
             Some(Fault::LastCarriedOnly) => entries.keys().next_back() != Some(&panel),
             Some(Fault::EntryOfPanelZeroStays) => panel == 0,
@@ -84,29 +92,19 @@ impl Panel {
         }
     }
 
-    /// Whether a message that is handed removes anything: always, but for planted faults.
-    fn removes_now(&self, message: &Message) -> bool {
-        match which() {
-            Some(Fault::OldRuleAtNewPanel) => false,
-            Some(Fault::SettlingRemovesNothing) => !self.settling,
-            Some(Fault::OnlySettlingRemoves) => self.settling,
-            Some(Fault::BarrierNotEmptied) => message.source != self.own,
-            _ => true,
-        }
-    }
-
-    /// Whether a planted fault removes a barrier entry at a panel of the old make.
-    fn old_removes(&self, message: &Message, panel: u8, entry: u32) -> bool {
-        let carried = message.predecessors.get(&panel).copied();
-        match which() {
-            Some(Fault::NewRuleAtOldPanel) => carried.is_some_and(|carried| entry <= carried),
-            Some(Fault::OldMakeRemovesByTheMark) => {
-                carried.is_some() && self.delivered.get(&panel) >= Some(&entry)
+    /// Whether a barrier entry goes by a planted fault of panels of the old make.
+    fn goes_from_old(&self, message: &Message, panel: u8, entry: u32) -> Option<bool> {
+        let carried = &message.predecessors;
+        match which()? {
+            Fault::NewRuleAtOldPanel => Some(at_most_carried(carried, panel, entry)),
+            Fault::OldMakeRemovesByTheMark => {
+                let mark = self.delivered.get(&panel);
+                Some(carried.contains_key(&panel) && mark >= Some(&entry))
             }
-            Some(Fault::OldMakeDropsNotCarried) => carried.is_none(),
-            Some(Fault::OldMakeEmptiesAsItReceives) => message.source != self.own,
-            Some(Fault::OldMakeDropsTheLapsed) => entry < self.time,
-            _ => false,
+            Fault::OldMakeDropsNotCarried => Some(!carried.contains_key(&panel)),
+            Fault::OldMakeEmptiesAsItReceives => Some(message.source != self.own),
+            Fault::OldMakeDropsTheLapsed => Some(entry < self.time),
+            _ => None,
         }
     }
 

@@ -146,11 +146,7 @@ fn brought(mixed: &mut Mixed) -> Result<(), Found> {
         (Make::Old, &long_c, &[(1, 200), (2, 300)]),
     ];
     for (make, c, barrier) in cases {
-        let kind = match make {
-            Make::Old => Kind::New,
-            Make::New => Kind::Old,
-        };
-        let mut panel = mixed.fresh(3, kind)?;
+        let mut panel = mixed.kept(&Kept::at(3, 0), make.other());
         for frame in &heard {
             accepted(mixed, &mut panel, &Call::receive(frame))?;
         }

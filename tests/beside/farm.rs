@@ -90,10 +90,7 @@ impl<'side, S: Side> Farm<'side, S> {
     /// A panel is brought to the other make.
     pub fn bring(&mut self, place: usize) {
         let member = &mut self.members[place];
-        member.make = match member.make {
-            Make::Old => Make::New,
-            Make::New => Make::Old,
-        };
+        member.make = member.make.other();
         self.side.bring(&mut member.panel, member.make);
         self.brought += 1;
     }

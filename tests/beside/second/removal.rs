@@ -13,6 +13,15 @@ pub enum Make {
     New,
 }
 
+impl Make {
+    pub fn other(self) -> Make {
+        match self {
+            Make::Old => Make::New,
+            Make::New => Make::Old,
+        }
+    }
+}
+
 /// The rule of W-204: whether a barrier entry is at most the one that a message carries for the
 /// same panel.
 fn at_most_carried(carried: &Barrier, panel: u8, entry: u32) -> bool {

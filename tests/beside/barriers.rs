@@ -17,11 +17,13 @@ pub fn run(both: &mut Both) -> Result<(), Found> {
     busy_yard(&mut mixed)?;
     brought(&mut mixed)?;
     borders(&mut mixed)?;
+    about_the_half(&mut mixed)?;
     own_panel(&mut mixed)?;
     ends_of_the_mask(&mut mixed)?;
     while_settling(&mut mixed)?;
     by_a_clock_call(&mut mixed)?;
     by_a_send(&mut mixed)?;
+    after_a_later_one(&mut mixed)?;
     only_when_handed(&mut mixed)
 }
 
@@ -45,10 +47,21 @@ fn logged(own: u8, time: u32, entries: Entries) -> Kept {
 
 /// Makes calls that are all accepted on a panel of each make.
 fn leaves(mixed: &mut Mixed, kept: &Kept, calls: &[Call], left: &Left) -> Result<(), Found> {
+    let calls: Vec<_> = calls.iter().map(|call| (call.clone(), 0)).collect();
+    answers_and_leaves(mixed, kept, &calls, left)
+}
+
+/// Makes calls on a panel of each make, which are answered with these numbers.
+fn answers_and_leaves(
+    mixed: &mut Mixed,
+    kept: &Kept,
+    calls: &[(Call, u8)],
+    left: &Left,
+) -> Result<(), Found> {
     for (make, barrier) in [(Make::New, left.new), (Make::Old, left.old)] {
         let mut panel = mixed.kept(kept, make);
-        for call in calls {
-            accepted(mixed, &mut panel, call)?;
+        for (call, number) in calls {
+            answers(mixed, &mut panel, call, *number)?;
         }
         has(mixed, &panel, barrier)?;
     }
@@ -70,11 +83,21 @@ fn has(mixed: &Mixed, panel: &Panel, entries: Entries) -> Result<(), Found> {
 
 /// A call that is accepted; the frame of a send.
 fn accepted(mixed: &mut Mixed, panel: &mut Panel, call: &Call) -> Result<Vec<u8>, Found> {
+    answers(mixed, panel, call, 0)
+}
+
+/// A call that is answered with this number; the frame of a send.
+fn answers(
+    mixed: &mut Mixed,
+    panel: &mut Panel,
+    call: &Call,
+    number: u8,
+) -> Result<Vec<u8>, Found> {
     let answer = mixed.call(panel, call)?;
-    match answer.number {
-        0 => Ok(mixed.frame()[..answer.length].to_vec()),
-        number => {
-            let what = format!("bench case: {number}, expected 0");
+    match answer.number == number {
+        true => Ok(mixed.frame()[..answer.length].to_vec()),
+        false => {
+            let what = format!("bench case: {}, expected {number}", answer.number);
             Err(Found::new(what).with(mixed.script(panel)))
         }
     }
@@ -159,15 +182,34 @@ fn brought(mixed: &mut Mixed) -> Result<(), Found> {
 
 /// An entry equal to the carried one goes, one above it stays, one below it goes, and one for which
 /// the message has no entry stays. The entry carried for panel 5 has lapsed, and removes all the
-/// same.
+/// same. The mark of panel 6 is above its barrier entry, as frames that nobody sent may leave it.
 fn borders(mixed: &mut Mixed) -> Result<(), Found> {
-    let entries: Entries = &[(0, 100), (4, 101), (5, 50), (6, 70)];
-    let call = Call::receive(&frame(1, 200, &[(0, 100), (4, 100), (5, 60)], b""));
+    let entries: Entries = &[(0, 100), (4, 101), (5, 50), (6, 70), (8, 80)];
+    let carried: Entries = &[(0, 100), (4, 100), (5, 60), (8, 79)];
     let left = Left {
-        new: &[(1, 200), (4, 101), (6, 70)],
-        old: &[(0, 100), (1, 200), (4, 101), (5, 50), (6, 70)],
+        new: &[(1, 200), (4, 101), (6, 70), (8, 80)],
+        old: &[(0, 100), (1, 200), (4, 101), (5, 50), (6, 70), (8, 80)],
     };
-    leaves(mixed, &logged(3, 61, entries), &[call], &left)
+    let mut kept = logged(3, 61, entries);
+    kept.marks[6] = 90;
+    let call = Call::receive(&frame(1, 200, carried, b""));
+    leaves(mixed, &kept, &[call], &left)
+}
+
+/// Entries below and above 2 to the power 31, all of which have lapsed: none of them has a sign.
+fn about_the_half(mixed: &mut Mixed) -> Result<(), Found> {
+    const HALF: u32 = 1 << 31;
+    let entries = [-9, 9, 7, -7, 8].map(|more| HALF.wrapping_add_signed(more));
+    let carried = [5, -5, 7, -7, 7].map(|more| HALF.wrapping_add_signed(more));
+    let numbered = |entries: [u32; 5]| (4..).zip(entries).collect::<Vec<(u8, u32)>>();
+    let (entries, carried) = (numbered(entries), numbered(carried));
+    let own = (1, HALF + 100);
+    let left = Left {
+        new: &[own, entries[1], entries[4]],
+        old: &[&[own], &entries[..]].concat(),
+    };
+    let call = Call::receive(&frame(own.0, own.1, &carried, b""));
+    leaves(mixed, &logged(3, HALF + 50, &entries), &[call], &left)
 }
 
 /// The entry of the message's own panel, removed or not, is the message's in the end.
@@ -259,26 +301,52 @@ fn by_a_send(mixed: &mut Mixed) -> Result<(), Found> {
     leaves(mixed, &kept, &calls, &left)
 }
 
-/// A message that waits removes nothing yet, and neither does a trace, nor a copy that is refused.
+/// A message is handed behind a later one of its panel, and its own goes in where the later one's
+/// was removed: so an entry is neither the old rule's nor removed. Nobody could have sent these
+/// frames, as the second of panel 2 does not name the first.
+fn after_a_later_one(mixed: &mut Mixed) -> Result<(), Found> {
+    let calls = [
+        Call::receive(&frame(2, 300, &[(1, 100)], b"")),
+        Call::receive(&frame(2, 400, &[], b"")),
+        Call::receive(&frame(5, 500, &[(2, 400)], b"")),
+        Call::receive(&frame(1, 100, &[], b"")),
+    ];
+    let left = Left {
+        new: &[(2, 300), (5, 500)],
+        old: &[(1, 100), (2, 400), (5, 500)],
+    };
+    leaves(mixed, &Kept::at(3, 0), &calls, &left)
+}
+
+/// A message that waits removes nothing yet, and neither does one that a clock call drops, one that
+/// is refused, or a trace.
 fn only_when_handed(mixed: &mut Mixed) -> Result<(), Found> {
-    let entries: Entries = &[(4, 60), (6, 70)];
+    let entries: Entries = &[(3, 80), (4, 60), (6, 70), (7, 45)];
     let kept = logged(0, 50, entries);
     let left = Left {
         new: entries,
         old: entries,
     };
-    let waits = Call::receive(&frame(5, 100, &[(1, 90), (4, 60)], b""));
-    leaves(mixed, &kept, &[waits.clone()], &left)?;
-    let ready = Call::trace(&frame(5, 100, &[(4, 60)], b""));
-    leaves(mixed, &kept, &[ready], &left)?;
-    let mut kept = kept;
-    (kept.marks[3], kept.high) = (80, 80);
-    let mut panel = mixed.kept(&kept, Make::New);
-    accepted(mixed, &mut panel, &waits)?;
-    for copy in [waits, Call::receive(&frame(3, 80, &[(6, 70)], b""))] {
-        let answer = mixed.call(&mut panel, &copy)?;
-        is("a copy is refused with 22", answer.number == 22)?;
-        has(mixed, &panel, entries)?;
+    let of_five = |deadline, entries: Entries| Call::receive(&frame(5, deadline, entries, b""));
+    let waits = of_five(100, &[(1, 90), (4, 60)]);
+    let dropped = of_five(65, &[(1, 62), (4, 60)]);
+    let logged = Call::receive(&frame(3, 80, &[(6, 70)], b""));
+    let traced = Call::trace(&frame(5, 100, &[(4, 60)], b""));
+    let cases: [&[(Call, u8)]; 5] = [
+        &[(waits.clone(), 0), (waits.clone(), 22)],
+        &[(dropped, 0), (Call::clock(66), 0)],
+        &[(of_five(49, &[(7, 45)]), 21)],
+        &[(logged, 22)],
+        &[(traced, 0)],
+    ];
+    for calls in cases {
+        answers_and_leaves(mixed, &kept, calls, &left)?;
     }
-    Ok(())
+    let waiting = (101..133).map(|deadline| frame(5, deadline, &[(1, 90)], b""));
+    let full = Kept {
+        count: 32,
+        frames: waiting.collect(),
+        ..kept
+    };
+    answers_and_leaves(mixed, &full, &[(waits, 23)], &left)
 }

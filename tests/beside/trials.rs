@@ -47,7 +47,6 @@ const BREAK_DEMAND_3: &[Fault] = &[
     Fault::PlaceTakenForPanel,
     Fault::LapsedEntriesRemoved,
     Fault::WaitingRemoves,
-    Fault::OwnRemovedToo,
     Fault::RemovedFromTheMarks,
     Fault::DeadlineByTheClockAlone,
     Fault::DeadlineNotAboveHigh,
@@ -74,8 +73,6 @@ const BREAK_DEMAND_3: &[Fault] = &[
 /// The faults of panels of the old make that break demand 3: the claims have to notice them where
 /// these panels share a farm with the module's.
 const BREAK_DEMAND_3_WHERE_MIXED: &[Fault] = &[
-    Fault::OldMakeRemovesByTheMark,
-    Fault::OldMakeDropsNotCarried,
     Fault::OldMakeDropsTheLapsed,
     Fault::OldMakeEmptiesAsItReceives,
     Fault::OldMakeLeavesReceivedOut,

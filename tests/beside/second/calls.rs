@@ -50,7 +50,9 @@ impl Panel {
             (Some(Fault::RefusedLapsedRaisesMark), 21) => {
                 raise(&mut self.delivered, message.source, message.deadline)
             }
-            (Some(Fault::RefusedCopyRemoves), 22) => self.remove_carried(message),
+            (Some(Fault::RefusedLapsedRemoves), 21)
+            | (Some(Fault::RefusedCopyRemoves), 22)
+            | (Some(Fault::RefusedForRoomRemoves), 23) => self.remove_carried(message),
             (_, 32) => self.change_by_far_ahead(message),
             _ => {}
         }
@@ -87,6 +89,8 @@ impl Panel {
             ready && !planted(Fault::EveryMessageHeldBack) && !self.wrongly_held_back(&message);
         let on_arrival =
             planted(Fault::HandedOnArrival) || self.old_with(Fault::OldMakeHandsOnArrival);
+        let asked = planted(Fault::RemovedByTheReceived);
+        self.received = asked.then(|| message.predecessors.clone());
         match ready || on_arrival {
             true => self.perform_delivery(&message, &mut log),
             false => {
@@ -98,6 +102,7 @@ impl Panel {
         }
         self.drop_far_ahead(Fault::ReceiveDropsFarAhead);
         self.check_pending_messages(&mut log);
+        self.received = None;
         accepted(log.count(), 0)
     }
 
@@ -166,13 +171,15 @@ impl Panel {
         if planted(Fault::LapsedNotDropped) {
             return;
         }
-        if planted(Fault::DroppedIsHanded) {
-            for pending in self.pending.clone() {
-                if lapsed(&pending.message) {
-                    self.perform_delivery(&pending.message, log);
-                }
+        let waiting = self.pending.iter().map(|pending| &pending.message);
+        let dropped: Vec<Message> = waiting.filter(|message| lapsed(message)).cloned().collect();
+        self.pending.retain(|pending| !lapsed(&pending.message));
+        for message in &dropped {
+            match which() {
+                Some(Fault::DroppedIsHanded) => self.perform_delivery(message, log),
+                Some(Fault::DroppedRemoves) => self.remove_carried(message),
+                _ => {}
             }
         }
-        self.pending.retain(|pending| !lapsed(&pending.message));
     }
 }

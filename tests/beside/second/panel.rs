@@ -44,6 +44,8 @@ pub struct Panel {
     pub turned_down: Vec<(u8, u32)>,
     /// The panel settles just now: planted faults ask for it.
     pub settling: bool,
+    /// The entries of the message that is received just now: a planted fault asks for them.
+    pub received: Option<Barrier>,
     /// What planted faults write into the next frame of entries that were removed.
     pub left_over: Barrier,
 }
@@ -63,6 +65,7 @@ pub fn fresh(number: u8, make: Make) -> (Panel, u8) {
         lost_places: 0,
         turned_down: Vec::new(),
         settling: false,
+        received: None,
         left_over: Barrier::new(),
     };
     let last = PANELS - 1 + u8::from(planted(Fault::FreshSixtyFourTaken));

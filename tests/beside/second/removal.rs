@@ -52,7 +52,7 @@ impl Panel {
         for panel in removed.keys() {
             self.barrier.remove(panel);
         }
-        self.change_by_removal(&removed);
+        self.change_by_removal(carried, &removed);
     }
 
     /// Whether a barrier entry goes by a planted fault that comes in front of the rule.
@@ -65,8 +65,12 @@ impl Panel {
             Fault::OnlyEqualEntryRemoved => Some(carried == Some(entry)),
             Fault::EntryOneAboveRemoved => up_to(carried.map(|carried| carried.saturating_add(1))),
             Fault::EntryAboveRemoved => Some(carried.is_some()),
-            Fault::RemovedByTheMark => up_to(carried.and(self.delivered.get(&panel).copied())),
+            Fault::EntriesWithASign => {
+                Some(carried.is_some_and(|carried| entry as i32 <= carried as i32))
+            }
+            Fault::RemovedByTheMark => up_to(self.delivered.get(&panel).copied()),
             Fault::RemovedByTheHighest => up_to(entries.values().max().copied()),
+            Fault::RemovedByTheFirst => up_to(carried.and(entries.values().next().copied())),
             Fault::RemovedByTheDeadline => Some(entry <= message.deadline),
             Fault::NotCarriedRemoved => up_to(carried.or(Some(u32::MAX))),
             Fault::RemovedPlaceByPlace => {
@@ -75,6 +79,10 @@ impl Panel {
             }
             Fault::PlaceTakenForPanel => up_to(entries.values().nth(usize::from(panel)).copied()),
             Fault::LapsedEntriesRemoved if entry < self.time => Some(true),
+            Fault::RemovedByTheReceived if self.settling => {
+                let received = self.received.as_ref();
+                received.map(|received| at_most_carried(received, panel, entry))
+            }
             _ => self.wrongly_stays(message, panel, entry).then_some(false),
         }
     }
@@ -92,6 +100,7 @@ impl Panel {
             Some(Fault::LastCarriedOnly) => entries.keys().next_back() != Some(&panel),
             Some(Fault::EntryOfPanelZeroStays) => panel == 0,
             Some(Fault::EntryOfLastPanelStays) => panel == PANELS - 1,
+            Some(Fault::EntryOfOwnPanelStays) => panel == self.own,
             Some(Fault::LapsedEntryStays) => entry < self.time,
             Some(Fault::LapsedCarriedRemovesNothing) => carried < self.time,
             Some(Fault::MissingCarriedRemovesNothing) => {
@@ -106,11 +115,6 @@ impl Panel {
         let carried = &message.predecessors;
         match which()? {
             Fault::NewRuleAtOldPanel => Some(at_most_carried(carried, panel, entry)),
-            Fault::OldMakeRemovesByTheMark => {
-                let mark = self.delivered.get(&panel);
-                Some(carried.contains_key(&panel) && mark >= Some(&entry))
-            }
-            Fault::OldMakeDropsNotCarried => Some(!carried.contains_key(&panel)),
             Fault::OldMakeEmptiesAsItReceives => Some(message.source != self.own),
             Fault::OldMakeDropsTheLapsed => Some(entry < self.time),
             _ => None,
@@ -118,11 +122,21 @@ impl Panel {
     }
 
     /// What planted faults change by the removal of these entries.
-    fn change_by_removal(&mut self, removed: &Barrier) {
+    fn change_by_removal(&mut self, carried: &Barrier, removed: &Barrier) {
         match which() {
             Some(Fault::RemovedFromTheMarks) => self
                 .delivered
                 .retain(|panel, _| !removed.contains_key(panel)),
+            Some(Fault::RemovedBecomesCarried) => {
+                let entries = carried.iter();
+                self.barrier
+                    .extend(entries.filter(|(panel, _)| removed.contains_key(panel)));
+            }
+            Some(Fault::StayingBecomesTheMark) if self.make == Make::New => {
+                for (panel, entry) in &mut self.barrier {
+                    *entry = self.delivered.get(panel).copied().unwrap_or(*entry);
+                }
+            }
             Some(Fault::RemovedIsSent) => self.left_over.extend(removed),
             Some(Fault::RemovedIsZero | Fault::RemovedBitStays | Fault::RemovedBytesStay) => {
                 let zeros = removed.keys().map(|panel| (*panel, 0));
@@ -135,9 +149,6 @@ impl Panel {
     /// What planted faults change in the barrier once the message's own is in.
     pub fn change_by_handing(&mut self, message: &Message) {
         match which() {
-            Some(Fault::OwnRemovedToo) => {
-                self.barrier.remove(&message.source);
-            }
             Some(Fault::CarriedGoesIn) => {
                 for (panel, entry) in &message.predecessors {
                     raise(&mut self.barrier, *panel, *entry);

@@ -143,17 +143,23 @@ fn claimed(fault: Option<Fault>, seed: u64) -> Option<u64> {
     found.err().map(|_| alone.calls)
 }
 
-/// Makes lists with both implementations, until a claim does not hold. The fault is one of old
-/// panels, which are compared with nothing here.
-fn claimed_where_mixed(fault: Option<Fault>, seed: u64) -> Option<u64> {
+/// Makes lists with both implementations, until they differ or a claim does not hold; what was
+/// found, and after how many calls.
+fn found_where_mixed(fault: Option<Fault>, seed: u64) -> Option<(Found, u64)> {
     plant(fault);
     let mut both = Both::new(Random::new(seed, 0));
     let mut mixed = Mixed::new(&mut both, seed).without_shadows();
-    let found = lists::run(&mut mixed, seed, CLAIM_CALLS, true);
+    let found = lists::run(&mut mixed, seed, CLAIM_CALLS, true).err();
     let calls = mixed.calls();
     plant(None);
-    let claim = |found: &Found| found.what.starts_with("demand 3");
-    found.err().filter(claim).map(|_| calls)
+    found.map(|found| (found, calls))
+}
+
+/// After how many of these calls a claim does not hold. The fault is one of old panels, which are
+/// compared with nothing here.
+fn claimed_where_mixed(fault: Fault, seed: u64) -> Option<u64> {
+    let (found, calls) = found_where_mixed(Some(fault), seed)?;
+    found.what.starts_with("demand 3").then_some(calls)
 }
 
 /// After how many calls the claims notice a fault that breaks demand 3.
@@ -162,7 +168,7 @@ fn claimed_if_breaking(fault: Fault, seed: u64) -> Option<u64> {
         return claimed(Some(fault), seed);
     }
     if BREAK_DEMAND_3_WHERE_MIXED.contains(&fault) {
-        return claimed_where_mixed(Some(fault), seed);
+        return claimed_where_mixed(fault, seed);
     }
     None
 }
@@ -231,8 +237,11 @@ pub fn run(seed: u64, list: &Path) -> Result<(), Found> {
         let what = format!("the part {} fails without a fault", noticed.part);
         return Err(Found::new(what));
     }
-    if claimed(None, seed).is_some() || claimed_where_mixed(None, seed).is_some() {
+    if claimed(None, seed).is_some() {
         return Err(Found::new("a claim does not hold, without a fault"));
+    }
+    if let Some((found, _)) = found_where_mixed(None, seed) {
+        return Err(found.within("in lists of both makes, without a fault"));
     }
     println!(
         "faults: {} planted in the second implementation, one at a time. The part that noticed",

@@ -3,7 +3,6 @@
 //! message's own goes in." Each case is written out for both makes.
 
 use crate::calls::Call;
-use crate::cases::is;
 use crate::compare::Both;
 use crate::compose::{frame, numbers};
 use crate::kept::Kept;
@@ -68,6 +67,11 @@ fn answers_and_leaves(
     Ok(())
 }
 
+/// What a case came to that is not as expected.
+fn wrong(what: String) -> Found {
+    Found::new(format!("shorter barriers: {what}"))
+}
+
 /// A panel's barrier has these entries, and no others.
 fn has(mixed: &Mixed, panel: &Panel, entries: Entries) -> Result<(), Found> {
     let given = panel.barrier();
@@ -75,8 +79,8 @@ fn has(mixed: &Mixed, panel: &Panel, entries: Entries) -> Result<(), Found> {
         true => Ok(()),
         false => {
             let given: Vec<_> = (0..64).zip(given).filter(|(_, entry)| *entry > 0).collect();
-            let what = format!("bench case: barrier {given:?}, expected {entries:?}");
-            Err(Found::new(what).with(mixed.script(panel)))
+            let what = format!("barrier {given:?}, expected {entries:?}");
+            Err(wrong(what).with(mixed.script(panel)))
         }
     }
 }
@@ -97,8 +101,8 @@ fn answers(
     match answer.number == number {
         true => Ok(mixed.frame()[..answer.length].to_vec()),
         false => {
-            let what = format!("bench case: {}, expected {number}", answer.number);
-            Err(Found::new(what).with(mixed.script(panel)))
+            let what = format!("{}, expected {number}", answer.number);
+            Err(wrong(what).with(mixed.script(panel)))
         }
     }
 }
@@ -122,8 +126,8 @@ fn sends(
     match sent == expected && sent.len() == length {
         true => Ok(sent),
         false => {
-            let what = format!("bench case: {sent:?}, expected {expected:?}");
-            Err(Found::new(what).with(mixed.script(&panel)))
+            let what = format!("{sent:?}, expected {expected:?}");
+            Err(wrong(what).with(mixed.script(&panel)))
         }
     }
 }
@@ -150,10 +154,10 @@ fn busy_yard(mixed: &mut Mixed) -> Result<(), Found> {
         }
     }
     let bytes = b"\x44\x52\x59\x00\x01\x03\0\0\x01\x90\0\0\0\0\0\0\0\x04\0\0\x01\x2c\0";
-    is(
-        "the bytes of frame D",
-        frame(3, 400, short_d.1, b"") == bytes,
-    )
+    match frame(3, 400, short_d.1, b"") == bytes {
+        true => Ok(()),
+        false => Err(wrong("frame D has other bytes".to_string())),
+    }
 }
 
 /// A panel takes A and B, is brought to the other make, and takes C, which a panel of either make

@@ -53,7 +53,7 @@ impl Both {
 
     /// A panel that starts with a kept record.
     pub fn kept(&mut self, kept: &Kept) -> Pair {
-        let second = kept.second(Make::New);
+        let second = second::Panel::kept(kept, Make::New);
         Pair {
             module: Record::kept(kept, &mut self.random),
             broken: second.broken(),

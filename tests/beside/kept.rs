@@ -2,7 +2,7 @@
 //! is a line that `--replay` reads.
 
 use crate::hexadecimal;
-use crate::second::{Make, Panel};
+use crate::second::Panel;
 use std::fmt;
 
 #[derive(Clone, Debug)]
@@ -68,13 +68,6 @@ impl Kept {
                 .map(|place| panel.waiting(place).into_owned())
                 .collect(),
         }
-    }
-
-    /// The record in the second implementation, at a panel of this make.
-    pub fn second(&self, make: Make) -> Panel {
-        let numbers = (self.own, self.time, self.high);
-        let (marks, barrier) = (&self.marks, &self.barrier);
-        Panel::kept(make, numbers, marks, barrier, self.count, &self.frames)
     }
 
     /// Reads the text of a record.

@@ -68,7 +68,7 @@ impl<'both> Mixed<'both> {
     /// A panel of this make that starts with a kept record.
     pub fn kept(&mut self, kept: &Kept, make: Make) -> Panel {
         match make {
-            Make::Old => Panel::Old(kept.second(make)),
+            Make::Old => Panel::Old(second::Panel::kept(kept, make)),
             Make::New => Panel::New(self.both.kept(kept), None),
         }
     }

@@ -4,6 +4,7 @@
 use super::delivery::visit;
 use super::faults::{planted, Fault};
 use super::{Barrier, Make, Message, PANELS, WAITING};
+use crate::kept::Kept;
 use std::borrow::Cow;
 
 /// A message that waits, and its frame. The source strikes predecessors off as they are met or
@@ -97,21 +98,18 @@ fn numbers(entries: &Barrier) -> [u32; 64] {
 }
 
 impl Panel {
-    /// A record that was kept, whole or broken, at a panel of this make: its numbers, how many
-    /// messages it says are waiting, and the bytes of the first 32 of them.
-    pub fn kept(
-        make: Make,
-        (own, time, high): (u8, u32, u32),
-        marks: &[u32; 64],
-        barrier: &[u32; 64],
-        count: usize,
-        frames: &[Vec<u8>],
-    ) -> Panel {
-        let mut panel = fresh(0, make).0;
-        (panel.own, panel.time, panel.high) = (own, time, high);
-        (panel.delivered, panel.barrier) = (entries(marks), entries(barrier));
-        panel.excess = count.saturating_sub(WAITING);
-        for frame in frames.iter().take(count) {
+    /// A record that was kept, whole or broken, at a panel of this make.
+    pub fn kept(kept: &Kept, make: Make) -> Panel {
+        let mut panel = Panel {
+            own: kept.own,
+            time: kept.time,
+            high: kept.high,
+            delivered: entries(&kept.marks),
+            barrier: entries(&kept.barrier),
+            excess: kept.count.saturating_sub(WAITING),
+            ..fresh(0, make).0
+        };
+        for frame in kept.frames.iter().take(kept.count) {
             match Message::read(frame) {
                 Ok(message) => panel.wait(message),
                 Err(_) => panel.unreadable += 1,

@@ -33,6 +33,13 @@ pub struct Spoken {
     pub waiting: u64,
 }
 
+impl Spoken {
+    pub fn add(&mut self, more: Spoken) {
+        self.messages += more.messages;
+        self.waiting += more.waiting;
+    }
+}
+
 pub struct Claims {
     messages: Vec<Message>,
     known: HashMap<(u8, u32), usize>,
@@ -117,9 +124,7 @@ impl Claims {
         let mut spoken = Spoken::default();
         for (place, at) in self.panels.iter().enumerate() {
             let checked = self.check_order(at).and_then(|()| self.check_standing(at));
-            let more = checked.map_err(|what| (what, place))?;
-            spoken.messages += more.messages;
-            spoken.waiting += more.waiting;
+            spoken.add(checked.map_err(|what| (what, place))?);
         }
         Ok(spoken)
     }

@@ -25,7 +25,8 @@ const ASKED: [(&str, &[u8]); 7] = [
 /// How many visits are counted apart; more are counted with the last.
 const VISITS: usize = 4;
 /// With so many calls of lists, messages have to have been sent far ahead and taken after a 32,
-/// both makes have to have shared a list, and frames to have been shorter than a shadow's.
+/// panels of each make to have taken some of the other, and frames to have been shorter than a
+/// shadow's.
 const MANY_CALLS: u64 = 100_000;
 
 #[derive(Default)]
@@ -127,7 +128,14 @@ impl Counts {
                 self.lists.taken_later,
                 "no list took a message that 32 had refused",
             ),
-            (self.lists.mixed, "no list had panels of both makes"),
+            (
+                self.lists.new_took_old,
+                "no new panel took a message of an old one",
+            ),
+            (
+                self.lists.old_took_new,
+                "no old panel took a message of a new one",
+            ),
             (self.lists.brought, "no panel was brought to the other make"),
             (self.shorter, "no frame was shorter than a shadow's"),
         ];
@@ -209,13 +217,20 @@ impl Counts {
     }
 
     /// The counts of the lists.
-    fn rows_of_lists(&self) -> [(u64, &'static str); 13] {
+    fn rows_of_lists(&self) -> [(u64, &'static str); 14] {
         let spoken = self.lists.spoken;
         [
-            (self.lists.mixed, "of them with panels of both makes"),
             (self.lists.calls, "calls in lists"),
             (self.lists.old_calls, "of them on panels of the old make"),
             (self.lists.brought, "panels brought to the other make"),
+            (
+                self.lists.new_took_old,
+                "messages of old panels taken at new ones",
+            ),
+            (
+                self.lists.old_took_new,
+                "messages of new panels taken at old ones",
+            ),
             (self.shadowed, "calls beside a shadow of the old make"),
             (self.beside_shadow, "frames sent by them"),
             (self.shorter, "of these shorter than the shadow's"),

@@ -3,6 +3,7 @@
 use crate::calls::Call;
 use crate::claims::{Claims, Spoken};
 use crate::compose;
+use crate::lists::Done;
 use crate::member::Member;
 use crate::plan::{Order, Plan};
 use crate::random::Random;
@@ -16,17 +17,10 @@ pub struct Farm<'side, S: Side> {
     pub members: Vec<Member<S::Panel>>,
     /// The frames that the list sent, in that order.
     pub frames: Vec<Vec<u8>>,
+    /// For each of these frames the make of its panel as it was sent.
+    makes: Vec<Make>,
     pub claims: Claims,
-    pub calls: usize,
-    /// Calls on panels of the old make.
-    pub old_calls: u64,
-    /// How often a panel was brought to the other make.
-    pub brought: u64,
-    pub claim_checks: u64,
-    /// Messages sent that were far ahead at their panel.
-    pub sent_far_ahead: u64,
-    /// Messages taken that had been refused there as far ahead.
-    pub taken_later: u64,
+    pub done: Done,
 }
 
 impl<'side, S: Side> Farm<'side, S> {
@@ -47,13 +41,12 @@ impl<'side, S: Side> Farm<'side, S> {
             plan,
             members,
             frames: Vec::new(),
+            makes: Vec::new(),
             claims,
-            calls: 0,
-            old_calls: 0,
-            brought: 0,
-            claim_checks: 0,
-            sent_far_ahead: 0,
-            taken_later: 0,
+            done: Done {
+                lists: 1,
+                ..Done::default()
+            },
         })
     }
 
@@ -61,8 +54,8 @@ impl<'side, S: Side> Farm<'side, S> {
     pub fn call(&mut self, place: usize, call: &Call) -> Result<Answer, Found> {
         let member = &mut self.members[place];
         let answer = self.side.call(&mut member.panel, call)?;
-        self.calls += 1;
-        self.old_calls += u64::from(member.make == Make::Old);
+        self.done.calls += 1;
+        self.done.old_calls += u64::from(member.make == Make::Old);
         if self.plan.lawful {
             let (output, frame) = (self.side.output(), self.side.frame());
             self.claims.after(place, call, answer, output, frame);
@@ -73,15 +66,16 @@ impl<'side, S: Side> Farm<'side, S> {
                     let frame = self.side.frame();
                     let bytes = frame[..answer.length.min(frame.len())].to_vec();
                     let far = member.far_ahead(compose::deadline_of(&bytes));
-                    self.sent_far_ahead += u64::from(far);
+                    self.done.sent_far_ahead += u64::from(far);
                     member.hold(self.frames.len());
                     self.frames.push(bytes);
+                    self.makes.push(member.make);
                 }
                 Call::Clock { reading, .. } => member.time = *reading,
                 Call::Receive { .. } | Call::Trace { .. } => {}
             }
         }
-        if self.calls <= 40 || self.random.chance(2) {
+        if self.done.calls <= 40 || self.random.chance(2) {
             self.check_claims()?;
         }
         Ok(answer)
@@ -92,7 +86,7 @@ impl<'side, S: Side> Farm<'side, S> {
         let member = &mut self.members[place];
         member.make = member.make.other();
         self.side.bring(&mut member.panel, member.make);
-        self.brought += 1;
+        self.done.brought += 1;
     }
 
     /// Checks the claims of demand 3 for the list so far, if the list keeps to its condition.
@@ -100,7 +94,7 @@ impl<'side, S: Side> Farm<'side, S> {
         if !self.plan.lawful || self.claims.void {
             return Ok(Spoken::default());
         }
-        self.claim_checks += 1;
+        self.done.claim_checks += 1;
         self.claims.check().map_err(|(what, place)| {
             let member = &self.members[place];
             let (number, make) = (member.number, member.make);
@@ -157,7 +151,7 @@ impl<'side, S: Side> Farm<'side, S> {
     /// Whether a frame is not passed on to this panel yet.
     fn held_back(&self, frame: usize, taker: usize) -> bool {
         self.plan.held_back
-            && self.calls < self.plan.calls / 2
+            && self.done.calls < self.plan.calls / 2
             && taker == self.members.len() - 1
             && self.frames[frame][5] == self.members[0].number
     }
@@ -201,13 +195,24 @@ impl<'side, S: Side> Farm<'side, S> {
         match answer.number {
             23 => {}
             32 => member.refused.push(frame),
-            _ => {
-                let later = answer.number == 0 && member.refused.contains(&frame);
-                self.taken_later += u64::from(later);
-                member.hold(frame);
-            }
+            _ => member.hold(frame),
+        }
+        if answer.number == 0 {
+            self.taken(taker, frame);
         }
         Ok(())
+    }
+
+    /// Counts a message that was taken.
+    fn taken(&mut self, taker: usize, frame: usize) {
+        let member = &self.members[taker];
+        let done = &mut self.done;
+        done.taken_later += u64::from(member.refused.contains(&frame));
+        match (member.make, self.makes[frame]) {
+            (Make::New, Make::Old) => done.new_took_old += 1,
+            (Make::Old, Make::New) => done.old_took_new += 1,
+            _ => {}
+        }
     }
 
     /// A clock call, after which a frame comes again that was refused as far ahead: in the last

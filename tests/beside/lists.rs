@@ -9,7 +9,7 @@ use crate::random::Random;
 use crate::second::{FARTHEST_AHEAD, FRAME, OUTPUT};
 use crate::side::{Found, Side};
 
-/// What was done in lists.
+/// What was done in a list, or in several.
 #[derive(Clone, Copy, Default)]
 pub struct Done {
     pub lists: u64,
@@ -19,14 +19,34 @@ pub struct Done {
     pub claim_checks: u64,
     /// What the claims spoke of at the ends of the lists.
     pub spoken: Spoken,
-    /// Messages sent far ahead, and messages taken that had been refused as far ahead.
+    /// Messages sent that were far ahead at their panel.
     pub sent_far_ahead: u64,
+    /// Messages taken that had been refused there as far ahead.
     pub taken_later: u64,
-    /// Lists in which calls were made on panels of both makes, calls on panels of the old make, and
-    /// how often a panel was brought to the other make.
-    pub mixed: u64,
+    /// Calls on panels of the old make.
     pub old_calls: u64,
+    /// How often a panel was brought to the other make.
     pub brought: u64,
+    /// Messages of panels of the old make that one of the new make took.
+    pub new_took_old: u64,
+    /// Messages of panels of the new make that one of the old make took.
+    pub old_took_new: u64,
+}
+
+impl Done {
+    fn add(&mut self, more: &Done) {
+        self.lists += more.lists;
+        self.calls += more.calls;
+        self.void += more.void;
+        self.claim_checks += more.claim_checks;
+        self.spoken.add(more.spoken);
+        self.sent_far_ahead += more.sent_far_ahead;
+        self.taken_later += more.taken_later;
+        self.old_calls += more.old_calls;
+        self.brought += more.brought;
+        self.new_took_old += more.new_took_old;
+        self.old_took_new += more.old_took_new;
+    }
 }
 
 /// Makes lists until so many calls are made. If all are to be lawful, each keeps to the condition
@@ -37,24 +57,15 @@ pub fn run<S: Side>(side: &mut S, seed: u64, calls: u64, all_lawful: bool) -> Re
         let mut random = Random::new(seed, done.lists);
         let lawful = all_lawful || done.lists % 3 != 2;
         let mut plan = Plan::any(&mut random, lawful);
-        plan.calls = plan.calls.min((calls - done.calls) as usize);
-        done.lists += 1;
-        let list = format!("list {} (of {} panels)", done.lists, plan.panels);
+        plan.calls = plan.calls.min(calls - done.calls);
         let mut farm = Farm::new(side, plan, random)?;
-        let spoken = farm.run().map_err(|found| {
-            let calls = done.calls + farm.calls as u64;
-            found.within(format!("{list}, call {} of it, {calls} of all", farm.calls))
+        let ended = farm.run();
+        done.add(&farm.done);
+        ended.map_err(|found| {
+            let list = format!("list {} (of {} panels)", done.lists, plan.panels);
+            let calls = format!("call {} of it, {} of all", farm.done.calls, done.calls);
+            found.within(format!("{list}, {calls}"))
         })?;
-        done.spoken.messages += spoken.messages;
-        done.spoken.waiting += spoken.waiting;
-        done.calls += farm.calls as u64;
-        done.mixed += u64::from(0 < farm.old_calls && farm.old_calls < farm.calls as u64);
-        done.old_calls += farm.old_calls;
-        done.brought += farm.brought;
-        done.claim_checks += farm.claim_checks;
-        done.sent_far_ahead += farm.sent_far_ahead;
-        done.taken_later += farm.taken_later;
-        done.void += u64::from(farm.claims.void);
     }
     Ok(done)
 }
@@ -71,8 +82,8 @@ fn odd_send(random: &mut Random) -> Call {
 
 impl<S: Side> Farm<'_, S> {
     /// Makes the calls of the list, and checks the claims at its end.
-    fn run(&mut self) -> Result<Spoken, Found> {
-        while self.calls < self.plan.calls && !self.claims.void {
+    fn run(&mut self) -> Result<(), Found> {
+        while self.done.calls < self.plan.calls && !self.claims.void {
             let place = self.random.below(self.members.len());
             let other = self.random.below(self.members.len());
             if self.random.chance(self.plan.brought) {
@@ -95,7 +106,9 @@ impl<S: Side> Farm<'_, S> {
                 _ => {}
             }
         }
-        self.check_claims()
+        self.done.void = u64::from(self.claims.void);
+        self.done.spoken = self.check_claims()?;
+        Ok(())
     }
 
     /// A call that is refused for one reason or several, or not at all.

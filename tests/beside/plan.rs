@@ -114,7 +114,7 @@ pub struct Plan {
     pub brought: usize,
     /// The panels of the new make have shadows.
     pub shadows: bool,
-    pub calls: usize,
+    pub calls: u64,
     /// The list keeps to the condition of demand 3: frames received were sent in the list, or are
     /// refused.
     pub lawful: bool,
@@ -146,13 +146,14 @@ fn panels(random: &mut Random) -> usize {
 }
 
 /// How many calls a list has.
-fn calls(random: &mut Random) -> usize {
-    match random.below(8) {
-        0 | 1 => random.between(10, 60),
-        2..=4 => random.between(100, 500),
-        5 | 6 => random.between(600, 1500),
-        _ => random.between(2000, 4000),
-    }
+fn calls(random: &mut Random) -> u64 {
+    let (least, most) = match random.below(8) {
+        0 | 1 => (10, 60),
+        2..=4 => (100, 500),
+        5 | 6 => (600, 1500),
+        _ => (2000, 4000),
+    };
+    random.between(least, most) as u64
 }
 
 impl Plan {

@@ -8,7 +8,7 @@ use crate::compose::{frame, numbers};
 use crate::kept::Kept;
 use crate::mixed::{Mixed, Panel};
 use crate::second::Make;
-use crate::side::{Found, Kind, Side};
+use crate::side::{Found, Side};
 use crate::traces::{highest, Entries};
 
 pub fn run(both: &mut Both) -> Result<(), Found> {
@@ -113,11 +113,11 @@ type Sent<'case> = (u16, Entries<'case>, usize);
 /// A fresh panel takes these frames and sends an empty payload; the frame.
 fn sends(
     mixed: &mut Mixed,
-    (number, kind): (u8, Kind),
+    (number, make): (u8, Make),
     heard: &[&[u8]],
     (lifetime, entries, length): Sent,
 ) -> Result<Vec<u8>, Found> {
-    let mut panel = mixed.fresh(number, kind)?;
+    let mut panel = mixed.kept(&Kept::at(number, 0), make);
     for frame in heard {
         accepted(mixed, &mut panel, &Call::receive(frame))?;
     }
@@ -140,13 +140,13 @@ fn busy_yard(mixed: &mut Mixed) -> Result<(), Found> {
     let short_d: Sent = (400, &[(2, 300)], 23);
     let long_d: Sent = (400, &[(0, 100), (1, 200), (2, 300)], 31);
     let yards = [
-        (Kind::New, short_c, Kind::New, short_d),
-        (Kind::New, short_c, Kind::Old, long_d),
-        (Kind::Old, long_c, Kind::New, short_d),
-        (Kind::Old, long_c, Kind::Old, long_d),
+        (Make::New, short_c, Make::New, short_d),
+        (Make::New, short_c, Make::Old, long_d),
+        (Make::Old, long_c, Make::New, short_d),
+        (Make::Old, long_c, Make::Old, long_d),
     ];
     for (two, c, three, d) in yards {
-        for first in [Kind::New, Kind::Old] {
+        for first in [Make::New, Make::Old] {
             let a = sends(mixed, (0, first), &[], (100, &[], 19))?;
             let b = sends(mixed, (1, first), &[&a], (200, &[(0, 100)], 23))?;
             let c = sends(mixed, (2, two), &[&a, &b], c)?;

@@ -3,6 +3,7 @@
 use crate::calls::Call;
 use crate::lists::Done;
 use crate::second::{Answer, Test};
+use crate::shadow::{Rule, Seen};
 use std::collections::{BTreeMap, BTreeSet};
 use std::fmt::Write;
 
@@ -24,10 +25,56 @@ const ASKED: [(&str, &[u8]); 7] = [
 ];
 /// How many visits are counted apart; more are counted with the last.
 const VISITS: usize = 4;
-/// With so many calls of lists, messages have to have been sent far ahead and taken after a 32,
-/// panels of each make to have taken some of the other, and frames to have been shorter than a
-/// shadow's.
+/// With so many calls of lists, each count that has to come up has to have done so.
 const MANY_CALLS: u64 = 100_000;
+
+/// Counts of lists, their words, and whether they have to come up in many calls.
+type Rows = Vec<(u64, &'static str, bool)>;
+
+/// What was seen beside shadows.
+#[derive(Default)]
+struct BesideShadows {
+    calls: u64,
+    /// Calls at panels that had been brought from one make to the other.
+    brought: u64,
+    frames: u64,
+    /// Frames that were shorter than the shadow's, and by how many bytes.
+    shorter: u64,
+    bytes_less: u64,
+    /// Calls that left a barrier entry that was neither the shadow's nor removed.
+    lower: u64,
+}
+
+impl BesideShadows {
+    fn add(&mut self, seen: &Seen) {
+        let bytes_less = seen.shorter.unwrap_or(0);
+        self.calls += 1;
+        self.brought += u64::from(seen.brought);
+        self.frames += u64::from(seen.shorter.is_some());
+        self.shorter += u64::from(bytes_less > 0);
+        self.bytes_less += bytes_less as u64;
+        self.lower += u64::from(seen.lower);
+    }
+
+    fn rows(&self, forged: bool) -> Rows {
+        vec![
+            (self.calls, "calls", true),
+            (
+                self.brought,
+                "calls at panels brought to the other make",
+                true,
+            ),
+            (self.frames, "frames sent", true),
+            (self.shorter, "frames shorter than the shadow's", true),
+            (self.bytes_less, "bytes shorter, all together", true),
+            (
+                self.lower,
+                "calls that left a lower barrier entry than the shadow's",
+                forged,
+            ),
+        ]
+    }
+}
 
 #[derive(Default)]
 pub struct Counts {
@@ -45,12 +92,8 @@ pub struct Counts {
     tests: [[u64; VISITS]; 2],
     most_visited: usize,
     lists: Done,
-    /// Calls beside a shadow, frames that were sent by them, and of these how many were shorter
-    /// than the shadow's, and by how many bytes.
-    shadowed: u64,
-    beside_shadow: u64,
-    shorter: u64,
-    bytes_less: u64,
+    /// What was seen beside shadows in lists of demand 3, and in others.
+    beside_shadows: [BesideShadows; 2],
     pub bundle_steps: u64,
     pub log_reads: u64,
     pub listings: u64,
@@ -91,12 +134,9 @@ impl Counts {
         }
     }
 
-    /// Counts a call beside a shadow, whose frame has so many bytes more.
-    pub fn shadow(&mut self, answer: Answer, bytes_less: usize) {
-        self.shadowed += 1;
-        self.beside_shadow += u64::from(answer.length > 0);
-        self.shorter += u64::from(bytes_less > 0);
-        self.bytes_less += bytes_less as u64;
+    /// Counts a call beside a shadow.
+    pub fn shadow(&mut self, seen: &Seen) {
+        self.beside_shadows[usize::from(seen.rule == Rule::AtMost)].add(seen);
     }
 
     fn count(&mut self, asked: usize, number: u8) {
@@ -119,30 +159,12 @@ impl Counts {
     /// they have none, and what else should have come up.
     pub fn wrong(&self) -> Vec<String> {
         let mut wrong = self.missing_tests();
-        let of_lists = [
-            (
-                self.lists.sent_far_ahead,
-                "no list sent a message far ahead",
-            ),
-            (
-                self.lists.taken_later,
-                "no list took a message that 32 had refused",
-            ),
-            (
-                self.lists.new_took_old,
-                "no new panel took a message of an old one",
-            ),
-            (
-                self.lists.old_took_new,
-                "no old panel took a message of a new one",
-            ),
-            (self.lists.brought, "no panel was brought to the other make"),
-            (self.shorter, "no frame was shorter than a shadow's"),
-        ];
-        let never = of_lists
-            .iter()
-            .filter(|(count, _)| self.lists.calls >= MANY_CALLS && *count == 0);
-        wrong.extend(never.map(|(_, words)| words.to_string()));
+        for (group, rows) in self.groups() {
+            let never = rows.iter().filter(|(count, _, needed)| {
+                *needed && *count == 0 && self.lists.calls >= MANY_CALLS
+            });
+            wrong.extend(never.map(|(_, words, _)| format!("none {group}: {words}")));
+        }
         for ((name, numbers), answered) in ASKED.iter().zip(&self.answered) {
             let missing = numbers
                 .iter()
@@ -183,14 +205,20 @@ impl Counts {
             }
             text.push('\n');
         }
-        for (count, words) in self.rows().iter().chain(&self.rows_of_lists()) {
+        for (count, words) in self.rows() {
             _ = writeln!(text, "{count:>11} {words}");
+        }
+        for (group, rows) in self.groups() {
+            _ = writeln!(text, "{group}:");
+            for (count, words, _) in rows {
+                _ = writeln!(text, "{count:>11} {words}");
+            }
         }
         text
     }
 
     /// The counts below the table.
-    fn rows(&self) -> [(u64, &'static str); 17] {
+    fn rows(&self) -> [(u64, &'static str); 16] {
         let visited = |visits: usize| self.tests[0][visits] + self.tests[1][visits];
         [
             (
@@ -212,37 +240,51 @@ impl Counts {
             (self.bundle_steps, "steps of bundles"),
             (self.log_reads, "log records read"),
             (self.listings, "runs of list"),
-            (self.lists.lists, "lists"),
         ]
     }
 
-    /// The counts of the lists.
-    fn rows_of_lists(&self) -> [(u64, &'static str); 14] {
-        let spoken = self.lists.spoken;
+    /// The counts of the lists, in groups.
+    fn groups(&self) -> [(&'static str, Rows); 3] {
+        let [lawful, forged] = &self.beside_shadows;
         [
-            (self.lists.calls, "calls in lists"),
-            (self.lists.old_calls, "of them on panels of the old make"),
-            (self.lists.brought, "panels brought to the other make"),
+            ("in lists", self.rows_of_lists()),
             (
-                self.lists.new_took_old,
+                "in lists of demand 3, beside shadows of the old make",
+                lawful.rows(false),
+            ),
+            (
+                "in lists with forged frames, beside shadows of the old make",
+                forged.rows(true),
+            ),
+        ]
+    }
+
+    fn rows_of_lists(&self) -> Rows {
+        let done = self.lists;
+        vec![
+            (done.lists, "lists", false),
+            (done.calls, "calls", false),
+            (done.old_calls, "calls on panels of the old make", true),
+            (done.brought, "panels brought to the other make", true),
+            (
+                done.new_took_old,
                 "messages of old panels taken at new ones",
+                true,
             ),
             (
-                self.lists.old_took_new,
+                done.old_took_new,
                 "messages of new panels taken at old ones",
+                true,
             ),
-            (self.shadowed, "calls beside a shadow of the old make"),
-            (self.beside_shadow, "frames sent by them"),
-            (self.shorter, "of these shorter than the shadow's"),
-            (self.bytes_less, "bytes shorter, all together"),
-            (self.lists.sent_far_ahead, "messages sent far ahead"),
-            (self.lists.taken_later, "messages taken after a 32"),
-            (self.lists.claim_checks, "checks of demand 3's claims"),
+            (done.sent_far_ahead, "messages sent far ahead", true),
+            (done.taken_later, "messages taken after a 32", true),
+            (done.claim_checks, "checks of demand 3's claims", false),
             (
-                spoken.messages,
+                done.spoken.messages,
                 "messages at panels that the last check of each list spoke of",
+                false,
             ),
-            (spoken.waiting, "of them waiting for others"),
+            (done.spoken.waiting, "of them waiting for others", false),
         ]
     }
 }

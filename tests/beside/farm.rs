@@ -32,7 +32,7 @@ impl<'side, S: Side> Farm<'side, S> {
         for (number, kind) in numbers.into_iter().zip(plan.kinds(&mut random)) {
             let panel = side.fresh(number, kind)?;
             let clock = plan.clocks.first_reading(&mut random);
-            members.push(Member::new(panel, number, kind.make(), clock));
+            members.push(Member::new(panel, number, kind.make, clock));
         }
         let claims = Claims::new(members.len());
         Ok(Farm {

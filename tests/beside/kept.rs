@@ -5,7 +5,7 @@ use crate::hexadecimal;
 use crate::second::Panel;
 use std::fmt;
 
-#[derive(Clone, Debug)]
+#[derive(Clone, Debug, PartialEq, Eq)]
 pub struct Kept {
     pub own: u8,
     pub time: u32,

@@ -10,25 +10,33 @@ use crate::second::{self, Answer, Make};
 use crate::shadow::{Came, Shadow};
 use crate::side::{Alone, Found, Kind, Side};
 
-pub enum Panel {
+/// A panel as it is now.
+enum Now {
     Old(second::Panel),
-    New(Pair, Option<Shadow>),
+    New(Pair),
 }
 
-impl Panel {
+impl Now {
     /// The record in plain form.
     fn record(&self) -> Kept {
         match self {
-            Panel::Old(panel) => Kept::of(panel),
-            Panel::New(pair, _) => pair.kept(),
+            Now::Old(panel) => Kept::of(panel),
+            Now::New(pair) => pair.kept(),
         }
     }
+}
 
+pub struct Panel {
+    now: Now,
+    shadow: Option<Shadow>,
+}
+
+impl Panel {
     /// The 64 barrier entries.
     pub fn barrier(&self) -> [u32; 64] {
-        match self {
-            Panel::Old(panel) => panel.barrier_entries(),
-            Panel::New(pair, _) => pair.module.barrier,
+        match &self.now {
+            Now::Old(panel) => panel.barrier_entries(),
+            Now::New(pair) => pair.module.barrier,
         }
     }
 }
@@ -36,7 +44,6 @@ impl Panel {
 pub struct Mixed<'both> {
     both: &'both mut Both,
     alone: Alone,
-    random: Random,
     /// The make of the panel that the last call was made on.
     last: Make,
     /// Whether panels that are to have a shadow get one.
@@ -48,7 +55,6 @@ impl<'both> Mixed<'both> {
         Mixed {
             both,
             alone: Alone::new(Random::new(seed, 1)),
-            random: Random::new(seed, 2),
             last: Make::New,
             shadows: true,
         }
@@ -65,39 +71,41 @@ impl<'both> Mixed<'both> {
         self.both.counts.calls() + self.alone.calls
     }
 
-    /// A panel of this make that starts with a kept record.
-    pub fn kept(&mut self, kept: &Kept, make: Make) -> Panel {
+    /// A panel of this make with a kept record.
+    fn now(&mut self, kept: &Kept, make: Make) -> Now {
         match make {
-            Make::Old => Panel::Old(second::Panel::kept(kept, make)),
-            Make::New => Panel::New(self.both.kept(kept), None),
+            Make::Old => Now::Old(second::Panel::kept(kept, make)),
+            Make::New => Now::New(self.both.kept(kept)),
         }
     }
 
-    /// Makes a call on a panel of the new make, and on its shadow.
-    fn call_new(
-        &mut self,
-        pair: &mut Pair,
-        shadow: &mut Option<Shadow>,
-        call: &Call,
-    ) -> Result<Answer, Found> {
-        let answer = self.both.call(pair, call)?;
-        let Some(shadow) = shadow else {
-            return Ok(answer);
+    /// A panel of this make that starts with a kept record, and has no shadow.
+    pub fn kept(&mut self, kept: &Kept, make: Make) -> Panel {
+        Panel {
+            now: self.now(kept, make),
+            shadow: None,
+        }
+    }
+
+    /// Makes a call of a panel on its shadow too, if it has one.
+    fn follow(&mut self, panel: &mut Panel, call: &Call, answer: Answer) -> Result<(), Found> {
+        let Some(shadow) = &mut panel.shadow else {
+            return Ok(());
         };
         let came = Came {
             answer,
-            output: self.both.output(),
-            frame: self.both.frame(),
-            record: &pair.module,
+            output: self.output(),
+            frame: self.frame(),
+            record: panel.now.record(),
         };
-        match shadow.follow(call, &came, &mut self.random) {
-            Ok(shorter) => {
-                self.both.counts.shadow(answer, shorter);
-                Ok(answer)
+        match shadow.follow(call, &came) {
+            Ok(seen) => {
+                self.both.counts.shadow(&seen);
+                Ok(())
             }
             Err(what) => {
                 let what = format!("beside a shadow of the old make: {what}");
-                Err(Found::new(what).with(self.both.script(pair)))
+                Err(Found::new(what).with(self.script(panel)))
             }
         }
     }
@@ -107,30 +115,36 @@ impl Side for Mixed<'_> {
     type Panel = Panel;
 
     fn fresh(&mut self, number: u8, kind: Kind) -> Result<Panel, Found> {
-        if kind == Kind::Old {
-            return Ok(Panel::Old(self.alone.fresh(number, kind)?));
-        }
-        let shadowed = kind == Kind::Shadowed && self.shadows;
-        let shadow = shadowed.then(|| Shadow::new(number));
-        Ok(Panel::New(self.both.fresh(number)?, shadow))
+        let now = match kind.make {
+            Make::Old => Now::Old(self.alone.fresh(number, kind)?),
+            Make::New => Now::New(self.both.fresh(number)?),
+        };
+        let rule = kind.shadow.filter(|_| self.shadows);
+        let shadow = rule.map(|rule| Shadow::new(number, rule));
+        Ok(Panel { now, shadow })
     }
 
-    /// A panel that is brought to the new make has no shadow.
+    /// The panel keeps its shadow.
     fn bring(&mut self, panel: &mut Panel, make: Make) {
-        *panel = self.kept(&panel.record(), make);
+        panel.now = self.now(&panel.now.record(), make);
+        if let Some(shadow) = &mut panel.shadow {
+            shadow.brought = true;
+        }
     }
 
     fn call(&mut self, panel: &mut Panel, call: &Call) -> Result<Answer, Found> {
-        match panel {
-            Panel::Old(panel) => {
+        let answer = match &mut panel.now {
+            Now::Old(panel) => {
                 self.last = Make::Old;
-                self.alone.call(panel, call)
+                self.alone.call(panel, call)?
             }
-            Panel::New(pair, shadow) => {
+            Now::New(pair) => {
                 self.last = Make::New;
-                self.call_new(pair, shadow, call)
+                self.both.call(pair, call)?
             }
-        }
+        };
+        self.follow(panel, call, answer)?;
+        Ok(answer)
     }
 
     fn output(&self) -> &[u8] {
@@ -149,9 +163,9 @@ impl Side for Mixed<'_> {
 
     /// Those of a panel of the old make are not kept.
     fn script(&self, panel: &Panel) -> Option<Script> {
-        match panel {
-            Panel::Old(_) => None,
-            Panel::New(pair, _) => self.both.script(pair),
+        match &panel.now {
+            Now::Old(_) => None,
+            Now::New(pair) => self.both.script(pair),
         }
     }
 }

@@ -1,7 +1,8 @@
 //! What kind of list is made: how many panels and calls, how the clocks go, who passes what on.
 
 use crate::random::Random;
-use crate::second::{BEACON_LIFETIME, DEFAULT_LIFETIME, FARTHEST_AHEAD};
+use crate::second::{Make, BEACON_LIFETIME, DEFAULT_LIFETIME, FARTHEST_AHEAD};
+use crate::shadow::Rule;
 use crate::side::Kind;
 
 /// How far the clocks of the panels are apart.
@@ -112,7 +113,7 @@ pub struct Plan {
     pub makes: Makes,
     /// How many steps in a hundred begin with a panel that is brought to the other make.
     pub brought: usize,
-    /// The panels of the new make have shadows.
+    /// The panels that are of the new make, or may come to be, have shadows.
     pub shadows: bool,
     pub calls: u64,
     /// The list keeps to the condition of demand 3: frames received were sent in the list, or are
@@ -185,9 +186,13 @@ impl Plan {
             _ => {}
         }
         if !lawful {
-            // What is checked of old panels and of shadows is said of lawful lists only.
-            (plan.makes, plan.shadows) = (AllNew, false);
             plan.often[4] = random.pick(&[20, 100]);
+            plan.shadows |= random.chance(30);
+            // Here old panels are looked at only where they are brought to the new make, and have
+            // shadows: the claims are not checked.
+            if !plan.shadows || plan.brought == 0 {
+                plan.makes = AllNew;
+            }
         }
         if matches!(plan.makes, AllNew) {
             plan.brought = 0;
@@ -203,12 +208,17 @@ impl Plan {
             Makes::Half => self.panels / 2,
             Makes::Any => random.below(self.panels + 1),
         };
-        let kind = match self.shadows {
-            true => Kind::Shadowed,
-            false => Kind::New,
+        let rule = match self.lawful {
+            true => Rule::SameOrRemoved,
+            false => Rule::AtMost,
         };
-        let mut kinds = vec![kind; new];
-        kinds.resize(self.panels, Kind::Old);
+        let kind = |make, shadow: bool| Kind {
+            make,
+            shadow: shadow.then_some(rule),
+        };
+        let mut kinds = vec![kind(Make::New, self.shadows); new];
+        let old = kind(Make::Old, self.shadows && self.brought > 0);
+        kinds.resize(self.panels, old);
         random.shuffle(&mut kinds);
         kinds
     }

@@ -97,17 +97,12 @@ fn same_entries(name: &str, module: &[u32; 64], second: &[u32; 64]) -> Result<()
 
 /// Compares the records by their meaning.
 pub fn same_records(module: &Record, second: &second::Panel) -> Result<(), String> {
-    same_but_for_barriers(module, second)?;
-    same_entries("barrier entry", &module.barrier, &second.barrier_entries())
-}
-
-/// Compares all of the records but the barriers.
-pub fn same_but_for_barriers(module: &Record, second: &second::Panel) -> Result<(), String> {
     same_number("own", u64::from(module.own), u64::from(second.own))?;
     same_number("time", u64::from(module.time), u64::from(second.time))?;
     same_number("high", u64::from(module.high), u64::from(second.high))?;
     same_number("waiting", module.count as u64, second.count() as u64)?;
     same_entries("mark", &module.marks, &second.marks())?;
+    same_entries("barrier entry", &module.barrier, &second.barrier_entries())?;
     for place in 0..module.count {
         let (module, second) = (module.waiting(place), second.waiting(place));
         if *module != *second {

@@ -6,6 +6,7 @@ use crate::random::Random;
 use crate::room::Room;
 use crate::script::Script;
 use crate::second::{self, Answer, Make};
+use crate::shadow::Rule;
 use std::fmt;
 
 /// What a run ends with that found something: the difference or the claim that does not hold, where
@@ -38,24 +39,11 @@ impl Found {
     }
 }
 
-/// What a panel of a list is.
-#[derive(Clone, Copy, PartialEq, Eq)]
-pub enum Kind {
-    /// One of the old make.
-    Old,
-    /// One of the new make.
-    New,
-    /// One of the new make that is to have a shadow.
-    Shadowed,
-}
-
-impl Kind {
-    pub fn make(self) -> Make {
-        match self {
-            Kind::Old => Make::Old,
-            Kind::New | Kind::Shadowed => Make::New,
-        }
-    }
+/// What a panel of a list is: its make, and what is checked beside its shadow, if it has one.
+#[derive(Clone, Copy)]
+pub struct Kind {
+    pub make: Make,
+    pub shadow: Option<Rule>,
 }
 
 pub trait Side {
@@ -110,7 +98,7 @@ impl Side for Alone {
     type Panel = second::Panel;
 
     fn fresh(&mut self, number: u8, kind: Kind) -> Result<second::Panel, Found> {
-        Ok(second::fresh(number, kind.make()).0)
+        Ok(second::fresh(number, kind.make).0)
     }
 
     fn bring(&mut self, panel: &mut second::Panel, make: Make) {

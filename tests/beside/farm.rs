@@ -183,6 +183,9 @@ impl<'side, S: Side> Farm<'side, S> {
                 continue;
             }
             self.pass(taker, frame)?;
+            if self.random.chance(self.plan.twice) {
+                self.pass(taker, frame)?;
+            }
         }
         Ok(())
     }

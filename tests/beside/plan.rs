@@ -129,6 +129,8 @@ pub struct Plan {
     pub order: Order,
     /// How many frames in a hundred are lost at a contact.
     pub lost: usize,
+    /// How many frames in a hundred come twice, one directly after the other.
+    pub twice: usize,
     pub most_passed: usize,
     /// The last panel gets no frames of the first one in the first half of the list.
     pub held_back: bool,
@@ -176,6 +178,7 @@ impl Plan {
             beacons: random.pick(&[0, 0, 10, 50]),
             order: random.pick(&[Any, Any, OldestFirst, NewestFirst]),
             lost: random.pick(&[0, 5, 30]),
+            twice: random.pick(&[0, 0, 0, 10]),
             most_passed: random.pick(&[2, 8, 50]),
             held_back: random.chance(25),
             often: [30, 30, 15, 10, 0],
@@ -232,6 +235,7 @@ impl Plan {
         self.clocks = random.pick(&[Clocks::Near, Clocks::Apart, Clocks::Wide, Clocks::Weeks]);
         self.clock_step = random.pick(&[1, 3]);
         self.lost = random.pick(&[0, 5, 30]);
+        self.twice = random.pick(&[0, 10, 30]);
         self.most_passed = random.pick(&[8, 50]);
         self.often = [15, 60, 10, 5, 0];
     }

@@ -102,6 +102,7 @@ impl<S: Side> Farm<'_, S> {
                 2 if self.random.chance(30) => self.clock_and_pass(place)?,
                 2 => self.clock(place)?,
                 3 => self.odd(place)?,
+                4 if self.random.chance(5) => self.later_one_first(place)?,
                 4 => self.forged(place)?,
                 _ => {}
             }
@@ -172,5 +173,26 @@ impl<S: Side> Farm<'_, S> {
             call = Call::receive(&bytes);
         }
         self.call(place, &call).map(|_| ())
+    }
+
+    /// Frames that nobody sent: a message waits, a later one of its panel does not and is named by
+    /// a third, and then comes what the first one waits for.
+    fn later_one_first(&mut self, place: usize) -> Result<(), Found> {
+        let mut panels: Vec<u8> = (0..64).collect();
+        self.random.shuffle(&mut panels);
+        let more = self.random.between(1, 100) as u32;
+        let start = self.members[place].time.saturating_add(more);
+        let deadline = |later| start.saturating_add(later);
+        let frames: [(u8, u32, &[(u8, u32)]); 4] = [
+            (panels[0], deadline(1), &[(panels[1], start)]),
+            (panels[0], deadline(2), &[]),
+            (panels[2], deadline(3), &[(panels[0], deadline(2))]),
+            (panels[1], start, &[]),
+        ];
+        for (source, deadline, entries) in frames {
+            let bytes = compose::frame(source, deadline, entries, b"");
+            self.call(place, &Call::receive(&bytes))?;
+        }
+        Ok(())
     }
 }

@@ -189,17 +189,12 @@ impl Plan {
             _ => {}
         }
         if !lawful {
-            plan.often[4] = random.pick(&[20, 100]);
-            plan.shadows |= random.chance(30);
-            // Here old panels are looked at only where they are brought to the new make, and have
-            // shadows: the claims are not checked.
-            if !plan.shadows || plan.brought == 0 {
-                plan.makes = AllNew;
-            }
+            plan.forges(random);
         }
         if matches!(plan.makes, AllNew) {
             plan.brought = 0;
         }
+        plan.shadows |= plan.brought > 0 && random.chance(50);
         plan
     }
 
@@ -224,6 +219,17 @@ impl Plan {
         kinds.resize(self.panels, old);
         random.shuffle(&mut kinds);
         kinds
+    }
+
+    /// A list with forged frames. The claims are not checked there: panels of the old make have a
+    /// part in it only as they are brought to the new make, beside their shadows.
+    fn forges(&mut self, random: &mut Random) {
+        (self.makes, self.brought) = match random.chance(25) {
+            true => (Makes::Half, 3),
+            false => (Makes::AllNew, 0),
+        };
+        self.shadows = self.brought > 0 || random.chance(30);
+        self.often[4] = random.pick(&[20, 100]);
     }
 
     /// A list in which messages spread: panels meet often and send rarely, so that a message is

@@ -1,5 +1,5 @@
 //! A shadow: beside a panel one of the old make, in the second implementation, that is given the
-//! same calls with the same bytes. The panel is of the new make, or was brought from one make to the
+//! same calls with the same bytes. The panel is of the new make, or is brought from one make to the
 //! other. It has to do the same in all but its barrier, and its frames are never longer.
 
 use crate::calls::Call;

@@ -4,16 +4,26 @@
 use crate::compose;
 use crate::member::Member;
 use crate::random::Random;
-use crate::second::{self, Answer, Make, FRAME, LOG_RECORD, OUTPUT};
+use crate::second::{self, Answer, Make, DEFAULT_LIFETIME, FRAME, LOG_RECORD, OUTPUT};
 use crate::side::Found;
 use std::fmt::Write;
+use std::thread;
 
 /// How many panels the yards have.
 const YARDS: [u8; 3] = [8, 16, 64];
 /// The loads, with how many contacts there are for each send.
 const LOADS: [(&str, usize); 2] = [("quiet", 60), ("busy", 3)];
-/// Frames that are sent in a yard.
-const SENDS: usize = 1_500;
+/// The makes of the panels of a yard, by their numbers.
+const MAKES: [(&str, fn(u8) -> Make); 3] = [
+    ("all old", |_| Make::Old),
+    ("half new", |number| match number % 2 {
+        0 => Make::Old,
+        _ => Make::New,
+    }),
+    ("all new", |_| Make::New),
+];
+/// Frames that are sent in a yard, for each of its panels.
+const SENDS: usize = 200;
 /// One of so many frames that are given is lost.
 const LOST: usize = 4;
 const PAYLOAD: [u8; 8] = *b"corn 18%";
@@ -31,7 +41,7 @@ fn events(panels: u8, contacts: usize) -> Vec<Event> {
     let mut random = Random::new(SEED, u64::from(panels) * 100 + contacts as u64);
     let panels = usize::from(panels);
     let mut events = Vec::new();
-    for _ in 0..SENDS {
+    for _ in 0..SENDS * panels {
         events.push(Event::Send(random.below(panels)));
         for _ in 0..contacts {
             let giver = random.below(panels);
@@ -47,6 +57,8 @@ struct Yard {
     members: Vec<Member<second::Panel>>,
     logs: Vec<Vec<u8>>,
     frames: Vec<Vec<u8>>,
+    /// How many of the frames were sent before a message can have lapsed.
+    early: usize,
     /// The contacts so far, and the messages that had to wait.
     contacts: u32,
     waited: usize,
@@ -54,8 +66,7 @@ struct Yard {
 }
 
 impl Yard {
-    /// A yard in which all this has been done. Each panel is given frames once a minute, on an
-    /// average.
+    /// A yard in which all this has been done.
     fn run(makes: fn(u8) -> Make, panels: u8, events: &[Event]) -> Result<Yard, Found> {
         let member = |number| {
             let make = makes(number);
@@ -65,18 +76,24 @@ impl Yard {
             members: (0..panels).map(member).collect(),
             logs: vec![Vec::new(); usize::from(panels)],
             frames: Vec::new(),
+            early: 0,
             contacts: 0,
             waited: 0,
             output: [0; OUTPUT],
         };
         for event in events {
-            let time = yard.contacts * 60 / u32::from(panels);
+            let time = yard.time();
             match event {
                 Event::Send(place) => yard.send(*place, time)?,
                 Event::Contact { giver, taker } => yard.contact(*giver, *taker, time)?,
             }
         }
         Ok(yard)
+    }
+
+    /// How many seconds have gone by: each panel is given frames once a minute, on an average.
+    fn time(&self) -> u32 {
+        self.contacts * 60 / self.members.len() as u32
     }
 
     /// Takes down what a call wrote. A call is refused here only where the waiting list is full.
@@ -103,19 +120,22 @@ impl Yard {
         let answer = member.panel.send(&PAYLOAD, 0, &mut self.output, &mut frame);
         member.hold(self.frames.len());
         self.frames.push(frame[..answer.length].to_vec());
+        self.early += usize::from(time < u32::from(DEFAULT_LIFETIME));
         self.after(place, answer)
     }
 
-    /// One panel gives another all live frames that it holds and the other lacks, and some are lost.
+    /// One panel gives another all live frames that it holds and the other lacks. Some are lost.
     fn contact(&mut self, giver: usize, taker: usize, time: u32) -> Result<(), Found> {
         self.contacts += 1;
         let mut random = Random::new(SEED, u64::from(self.contacts));
-        self.clock(taker, time)?;
         let frames = &self.frames;
         let live = |frame: &usize| compose::deadline_of(&frames[*frame]) >= time;
         self.members[giver].held.retain(live);
         let mut given = self.members[giver].held.clone();
         given.retain(|frame| !self.members[taker].holds(*frame) && random.below(LOST) != 0);
+        if !given.is_empty() {
+            self.clock(taker, time)?;
+        }
         for frame in given {
             let member = &mut self.members[taker];
             let answer = member.panel.receive(&self.frames[frame], &mut self.output);
@@ -128,8 +148,13 @@ impl Yard {
         Ok(())
     }
 
+    /// The frames that the table counts.
+    fn counted(&self) -> &[Vec<u8>] {
+        &self.frames[self.early..]
+    }
+
     fn bytes(&self) -> usize {
-        self.frames.iter().map(Vec::len).sum()
+        self.counted().iter().map(Vec::len).sum()
     }
 
     /// The logs are those of the yard with old panels, and no frame is longer than there. Some
@@ -150,37 +175,38 @@ impl Yard {
 
     /// What the table says of the frames, beside the yard with old panels.
     fn columns(&self, old: &Yard) -> String {
-        let sent = self.frames.len();
-        let mean = |sum: usize| sum as f64 / sent as f64;
-        let frames = || self.frames.iter();
-        let entries = mean(frames().map(|frame| compose::entries(frame)).sum());
-        let longest = frames().map(Vec::len).max().unwrap_or(0);
+        let counted = self.counted();
+        let frames = counted.len();
+        let mean = |sum: usize| sum as f64 / frames as f64;
+        let entries = mean(counted.iter().map(|frame| compose::entries(frame)).sum());
+        let longest = counted.iter().map(Vec::len).max().unwrap_or(0);
         let less = 100.0 - 100.0 * self.bytes() as f64 / old.bytes() as f64;
-        let bytes = mean(self.bytes());
-        format!("{sent} | {entries:.2} | {bytes:.2} | {longest} | {less:.1} %")
+        let (hours, bytes) = (self.time() / 3600, mean(self.bytes()));
+        format!("{hours} | {frames} | {entries:.2} | {bytes:.2} | {longest} | {less:.1} %")
     }
+}
+
+/// The same is done in a yard of each of the makes, on a thread each.
+fn yards(panels: u8, events: &[Event]) -> Result<Vec<Yard>, Found> {
+    thread::scope(|scope| {
+        let run = |(_, makes)| scope.spawn(move || Yard::run(makes, panels, events));
+        let yards = MAKES.map(run).into_iter();
+        yards
+            .map(|yard| match yard.join() {
+                Ok(yard) => yard,
+                Err(_) => Err(Found::new("a yard was not run to its end")),
+            })
+            .collect()
+    })
 }
 
 /// The rows of a yard with this load. The first is that of panels of the old make alone.
 fn rows(panels: u8, (load, contacts): (&str, usize)) -> Result<String, Found> {
-    let makes: [(&str, fn(u8) -> Make); 3] = [
-        ("all old", |_| Make::Old),
-        ("half new", |number| match number % 2 {
-            0 => Make::Old,
-            _ => Make::New,
-        }),
-        ("all new", |_| Make::New),
-    ];
-    let events = events(panels, contacts);
-    let mut yards = Vec::new();
-    for (name, makes) in makes {
-        yards.push((name, Yard::run(makes, panels, &events)?));
-    }
-    let old = &yards[0].1;
+    let yards = yards(panels, &events(panels, contacts))?;
     let mut text = String::new();
-    for (name, yard) in &yards {
-        yard.compare(old)?;
-        let columns = yard.columns(old);
+    for ((name, _), yard) in MAKES.iter().zip(&yards) {
+        yard.compare(&yards[0])?;
+        let columns = yard.columns(&yards[0]);
         _ = writeln!(text, "| {panels} | {load} | {name} | {columns} |");
     }
     Ok(text)
@@ -189,8 +215,8 @@ fn rows(panels: u8, (load, contacts): (&str, usize)) -> Result<String, Found> {
 /// The table, as Markdown.
 pub fn table() -> Result<String, Found> {
     let columns =
-        "panels | load | makes | frames | entries a frame | bytes a frame | longest frame";
-    let mut text = format!("| {columns} | bytes less |\n|---|---|---|---|---|---|---|---|\n");
+        "panels | load | makes | hours | frames | entries a frame | bytes a frame | longest frame";
+    let mut text = format!("| {columns} | bytes less |\n|---|---|---|---|---|---|---|---|---|\n");
     for panels in YARDS {
         for load in LOADS {
             text += &rows(panels, load)?;

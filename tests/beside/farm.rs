@@ -24,10 +24,11 @@ pub struct Farm<'side, S: Side> {
 }
 
 impl<'side, S: Side> Farm<'side, S> {
-    /// Fresh panels, no two of the same number.
+    /// Fresh panels, no two of the same number: in a third of the lists they have the lowest ones.
     pub fn new(side: &'side mut S, plan: Plan, mut random: Random) -> Result<Self, Found> {
         let mut numbers: Vec<u8> = (0..64).collect();
-        random.shuffle(&mut numbers);
+        let of_these = random.pick(&[64, 64, plan.panels]);
+        random.shuffle(&mut numbers[..of_these]);
         let mut members = Vec::new();
         for (number, kind) in numbers.into_iter().zip(plan.kinds(&mut random)) {
             let panel = side.fresh(number, kind)?;

@@ -178,7 +178,7 @@ impl Plan {
             beacons: random.pick(&[0, 0, 10, 50]),
             order: random.pick(&[Any, Any, OldestFirst, NewestFirst]),
             lost: random.pick(&[0, 5, 30]),
-            twice: random.pick(&[0, 0, 0, 10]),
+            twice: random.pick(&[0, 0, 10, 30]),
             most_passed: random.pick(&[2, 8, 50]),
             held_back: random.chance(25),
             often: [30, 30, 15, 10, 0],
@@ -241,7 +241,7 @@ impl Plan {
         self.clocks = random.pick(&[Clocks::Near, Clocks::Apart, Clocks::Wide, Clocks::Weeks]);
         self.clock_step = random.pick(&[1, 3]);
         self.lost = random.pick(&[0, 5, 30]);
-        self.twice = random.pick(&[0, 10, 30]);
+        self.twice = random.pick(&[10, 30, 50]);
         self.most_passed = random.pick(&[8, 50]);
         self.often = [15, 60, 10, 5, 0];
     }

@@ -14,7 +14,7 @@ use std::thread;
 /// Threads that the faults are tried on.
 const THREADS: usize = 2;
 /// Calls of lists after which the claims have to have noticed a fault.
-const CLAIM_CALLS: u64 = 200_000;
+const CLAIM_CALLS: u64 = 300_000;
 
 /// The faults that break demand 3: the claims alone have to notice them too, without the module.
 const BREAK_DEMAND_3: &[Fault] = &[

@@ -23,7 +23,7 @@ const MAKES: [(&str, fn(u8) -> Make); 3] = [
     ("all new", |_| Make::New),
 ];
 /// Frames that are sent in a yard, for each of its panels.
-const SENDS: usize = 200;
+const SENDS: usize = 100;
 /// One of so many frames that are given is lost.
 const LOST: usize = 4;
 const PAYLOAD: [u8; 8] = *b"corn 18%";

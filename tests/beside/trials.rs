@@ -16,7 +16,8 @@ const THREADS: usize = 2;
 /// Calls of lists after which the claims have to have noticed a fault.
 const CLAIM_CALLS: u64 = 300_000;
 
-/// The faults that break demand 3: the claims alone have to notice them too, without the module.
+/// Faults that break demand 3 in lists of so many calls, as far as seeds were tried: the claims alone
+/// have to notice them too, without the module.
 const BREAK_DEMAND_3: &[Fault] = &[
     Fault::OnePassOverTheList,
     Fault::BarrierEmptiedBeforeFrame,

@@ -1,6 +1,7 @@
 // Runs the calls by value, each accepted and each refused: bench cases 1, 2, 6 and 11 of document 01,
-// beacons, one of them too far ahead, a trace of each frame before its receive, and a panel number above 63.
-// It prints a line for each call; the file stdout beside src/ is what it must print. (tests/ runs all bench cases, in place.)
+// beacons, one of them too far ahead, a frame of W-204's busy yard, a trace of each frame before its
+// receive, and a panel number above 63. It prints a line for each call; the file stdout beside src/ is
+// what it must print. (tests/ runs all bench cases, in place.)
 use by_value::Sent;
 use panel::Panel;
 use tracing::Trace;
@@ -124,6 +125,13 @@ fn at(own: u8, time: u32) -> Panel {
     clock(fresh(own), time)
 }
 
+// Panel 2 hears A and B of the busy yard, and sends C.
+fn busy_yard() {
+    let a = b"DRY\x00\x01\x00\x00\x00\x00\x64\x00\x00\x00\x00\x00\x00\x00\x00\x00";
+    let b = b"DRY\x00\x01\x01\x00\x00\x00\xc8\x00\x00\x00\x00\x00\x00\x00\x01\x00\x00\x00\x64\x00";
+    send(receive(receive(fresh(2), a), b), b"", 300);
+}
+
 fn main() {
     print(b"cases 1 and 2\n");
     send(send(at(3, 100), b"OK", 0), b"", 0);
@@ -131,6 +139,8 @@ fn main() {
     beacon(at(3, 100), b"OK");
     print(b"beacons up to the last deadline, too far ahead for a fresh panel\n");
     beacon(beacon(at(3, 4294966095), b""), b"");
+    print(b"the busy yard: panel 2 has A and B in its log, and names B alone, which names A\n");
+    busy_yard();
     print(b"case 6\n");
     send(send(at(0, 4294967294), b"", 1), b"", 1);
     print(b"case 11\n");

@@ -37,7 +37,8 @@ pub record Panel : Type 0 where
 unfoldable pub none64 : List ℕ
 none64 = replicate 64 0
 
--- A fresh panel has time 0, high 0, all marks and barrier entries 0, and nothing waiting.
+-- A fresh panel has time 0, high 0, all marks and barrier entries 0, and nothing waiting. (Its make is the module's; in a list each call brings
+-- that of its panel.)
 unfoldable pub fresh : ℕ → Panel
 fresh own = record { own = own; time = 0; high = 0; marks = none64; barrier = none64; waiting = []; make = newMake }
 

@@ -27,8 +27,8 @@ record BesideAt (old new : Panel) : Type 0 where
   alike : new ≡ withBarrier old make barrier
   beside : Beside (ofMake oldMake old) barrier
 
-beside-ofMake : {p : Panel} {b : List ℕ} → Beside p b → Beside (ofMake oldMake p) b
-beside-ofMake B =
+beside-ofMake : (p : Panel) (b : List ℕ) → Beside p b → Beside (ofMake oldMake p) b
+beside-ofMake p b B =
     record { old = refl; at-most = B .at-most; below-mark = B .below-mark; below-high = B .below-high; beside-64 = B .beside-64; barrier-64 = B .barrier-64; marks-64 = B .marks-64 }
 
 beside-fresh : (panel : ℕ) → BesideAt (fresh panel) (fresh panel)
@@ -59,7 +59,7 @@ beside-call old new A make call =
       make = make;
       barrier = R .barrier;
       alike = ap (λ (p : Panel). defined (ofMake make p) call .panel) (A .alike) ∙ R .panel;
-      beside = beside-ofMake (R .beside);
+      beside = beside-ofMake (defined (ofMake oldMake old) call .panel) (R .barrier) (R .beside);
     }
 
 beside-list : (list : List Made) → AllPromised list → (panel : ℕ) → BesideAt (recordAt panel (asOld list)) (recordAt panel list)

@@ -19,7 +19,7 @@ use Rattle.rules.specs.Calls.{handAndSettle, sendDeadline, newMessage, emptied,
 use Rattle.rules.specs.Refusals.{someAbove, broken, tooFarAhead, sendChecks, messageChecks, receiveChecks, clockChecks}
 use Rattle.rules.specs.Results.{Call, send, receive, clock, outputOf, bufferOf, checksOf, effectOf, frameOf, Result, refused, done, unless, defined}
 use Rattle.barriers.specs.Barriers.{withBarrier}
-use Rattle.barriers.proofs.BesideOld.{Beside, beside-waiting, beside-time, beside-emptied, BesideSettled, handThen-beside, settle-beside}
+use Rattle.barriers.proofs.BesideOld.{Beside, beside-emptied, BesideSettled, handThen-beside, settle-beside}
 
 -- ---- what a call does
 
@@ -34,7 +34,7 @@ module _ (p : Panel) (make : Make) (b : List ℕ) (B : Beside p b) where
 
   sending-beside : (payload : List ℕ) (lifetime : ℕ) → BesideSettled make (sending p payload lifetime) (sending q payload lifetime)
   unfolding sending handAndSettle newMessage sendDeadline
-  sending-beside payload lifetime = handThen-beside settle settle-beside (emptied p) make none64 (beside-emptied B) (newMessage p payload lifetime) b
+  sending-beside payload lifetime = handThen-beside settle settle-beside (emptied p) make none64 (beside-emptied p b B) (newMessage p payload lifetime) b
 
   receiving-beside : (m : Message) → BesideSettled make (receiving p m) (receiving q m)
   unfolding receiving handAndSettle ready met lapsed
@@ -43,13 +43,13 @@ module _ (p : Panel) (make : Make) (b : List ℕ) (B : Beside p b) where
       go : (r : Bool) → BesideSettled make (cond r (handThen settle p m) (settle (withWaiting p (p .waiting ++ (m ∷ [])))))
           (cond r (handThen settle q m) (settle (withWaiting q (p .waiting ++ (m ∷ [])))))
       go true = handThen-beside settle settle-beside p make b B m (m .entries)
-      go false = settle-beside (withWaiting p (p .waiting ++ (m ∷ []))) make b (beside-waiting B (p .waiting ++ (m ∷ [])))
+      go false = settle-beside (withWaiting p (p .waiting ++ (m ∷ []))) make b B
 
   clocking-beside : (time : ℕ) → BesideSettled make (clocking p time) (clocking q time)
   unfolding clocking
   clocking-beside time =
       rw (alive-beside (withTime p time) make b (p .waiting))
-      (settle-beside (dropLapsed (withTime p time)) make b (beside-waiting (beside-time B time) (alive (withTime p time) (p .waiting))))
+      (settle-beside (dropLapsed (withTime p time)) make b B)
 
   effect-beside : (call : Call) → BesideSettled make (effectOf p call) (effectOf q call)
   effect-beside (send payload lifetime output buffer) = sending-beside payload lifetime

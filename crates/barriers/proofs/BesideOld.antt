@@ -12,7 +12,7 @@ use Rattle.frame.specs.Message.{Message, messageOf}
 use Rattle.rules.specs.Panel.{Make, oldMake, Panel, none64, lapsed, met, ready}
 use Rattle.rules.specs.Handing.{raise, barrierFor, hand, logRecord, logRecords}
 use Rattle.rules.specs.Settling.{choice, chosen, without, withWaiting, Settled, waitingAt, handThen, goOn, settleIn, settle}
-use Rattle.rules.specs.Calls.{emptied, withTime}
+use Rattle.rules.specs.Calls.{emptied}
 use Rattle.rules.specs.Results.{done}
 use Rattle.barriers.specs.Barriers.{withBarrier}
 use Rattle.rules.proofs.Raise.{length-raise, raise-mono, raise-bound, getD-none64, length-none64}
@@ -20,27 +20,22 @@ use Rattle.rules.proofs.Shortened.{getD-barrierFor, length-barrierFor}
 
 -- ---- the record of the old make, and a barrier beside its own
 
-pub record Beside (p : Panel) (b : List ℕ) : Type 0 where
-  pub old : p .make ≡ oldMake
-  pub at-most : (k : ℕ) → getD b k 0 ≤ getD (p .barrier) k 0
-  pub below-mark : (k : ℕ) → getD (p .barrier) k 0 ≤ getD (p .marks) k 0
-  pub below-high : (k : ℕ) → getD (p .barrier) k 0 ≤ p .high
+pub record BesideOf (make : Make) (marks barrier : List ℕ) (high : ℕ) (b : List ℕ) : Type 0 where
+  pub old : make ≡ oldMake
+  pub at-most : (k : ℕ) → getD b k 0 ≤ getD barrier k 0
+  pub below-mark : (k : ℕ) → getD barrier k 0 ≤ getD marks k 0
+  pub below-high : (k : ℕ) → getD barrier k 0 ≤ high
   pub beside-64 : length b ≡ 64
-  pub barrier-64 : length (p .barrier) ≡ 64
-  pub marks-64 : length (p .marks) ≡ 64
+  pub barrier-64 : length barrier ≡ 64
+  pub marks-64 : length marks ≡ 64
 
 -- the waiting list and the time make no difference
-pub beside-waiting : {p : Panel} {b : List ℕ} → Beside p b → (ms : List Message) → Beside (withWaiting p ms) b
-beside-waiting B ms =
-    record { old = B .old; at-most = B .at-most; below-mark = B .below-mark; below-high = B .below-high; beside-64 = B .beside-64; barrier-64 = B .barrier-64; marks-64 = B .marks-64 }
-
-pub beside-time : {p : Panel} {b : List ℕ} → Beside p b → (time : ℕ) → Beside (withTime p time) b
-beside-time B time =
-    record { old = B .old; at-most = B .at-most; below-mark = B .below-mark; below-high = B .below-high; beside-64 = B .beside-64; barrier-64 = B .barrier-64; marks-64 = B .marks-64 }
+abbrev pub Beside : Panel → List ℕ → Type 0
+Beside p b = BesideOf (p .make) (p .marks) (p .barrier) (p .high) b
 
 -- both are emptied
-pub beside-emptied : {p : Panel} {b : List ℕ} → Beside p b → Beside (emptied p) none64
-beside-emptied B =
+pub beside-emptied : (p : Panel) (b : List ℕ) → Beside p b → Beside (emptied p) none64
+beside-emptied p b B =
     record {
       old = B .old;
       at-most = λ k. omega arith;
@@ -138,7 +133,7 @@ settleIn-beside (suc n) p make b B =
     go rest none = record { barrier = b; panel = refl; beside = B; logged = refl; count = refl }
     go rest (some place) =
         let m = waitingAt p place in
-        handThen-beside (settleIn n) rest (withWaiting p (without place (p .waiting))) make b (beside-waiting B (without place (p .waiting))) m (m .entries)
+        handThen-beside (settleIn n) rest (withWaiting p (without place (p .waiting))) make b B m (m .entries)
 
 pub settle-beside : Settler settle
 unfolding settle

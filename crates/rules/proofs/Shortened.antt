@@ -5,7 +5,6 @@ use native.Mathlib.Decide.{ℕ-discrete}
 use native.Mathlib.Omega.{arith}
 use mathlib.Core.Path.{_≡_, refl, sym, ap, _∙_}
 use mathlib.Core.Logic.{_⊎_, inl, inr, _≢_, by-cases}
-use mathlib.Core.Bool.{cond}
 use mathlib.Core.List.{List, [], _∷_}
 use lib.ListN.{length, getD, replicate}
 use lib.Seq.{ext-getD}
@@ -13,7 +12,7 @@ use lib.Dec.{leb}
 use borrow.Author.Tests.{leb-true, lt-leb}
 use Rattle.frame.specs.Message.{Message}
 use Rattle.rules.specs.Panel.{Make, oldMake, newMake, Panel, none64}
-use Rattle.rules.specs.Handing.{raise, shortened, barrierFor, hand}
+use Rattle.rules.specs.Handing.{raise, remains, shortened, barrierFor, hand}
 use Rattle.rules.proofs.Booleans.{cond-both}
 use Rattle.rules.proofs.Raise.{length-raise, raise-same, raise-other}
 
@@ -66,11 +65,11 @@ shortened-none64 entries = shortened-zeros 64 entries
 -- ---- what is left, entry by entry
 
 -- where the message has no entry, the barrier's stays
-pub without-entry : (b : ℕ) → cond (leb b 0) 0 b ≡ b
+pub without-entry : (b : ℕ) → remains b 0 ≡ b
 without-entry b = cond-both (λ n. n ≡ b) (leb b 0) (λ e. omega (arith, leb-true b 0 e)) (λ _. refl)
 
 pub getD-shortened : (barrier entries : List ℕ) (k : ℕ)
-    → getD (shortened barrier entries) k 0 ≡ cond (leb (getD barrier k 0) (getD entries k 0)) 0 (getD barrier k 0)
+    → getD (shortened barrier entries) k 0 ≡ remains (getD barrier k 0) (getD entries k 0)
 unfolding shortened
 getD-shortened [] entries k = cond-both (λ n. 0 ≡ n) (leb 0 (getD entries k 0)) (λ _. refl) (λ _. refl)
 getD-shortened (b ∷ barrier) [] k = sym (without-entry (getD (b ∷ barrier) k 0))
@@ -100,15 +99,12 @@ either-first barrier m below =
     es : List ℕ
     es = m .entries
 
-    left : ℕ → ℕ → ℕ
-    left b entry = cond (leb b entry) 0 b
-
-    apart : (k : ℕ) → k ≢ m .source → left (getD (raise barrier m) k 0) (getD es k 0) ≡ getD (raise (shortened barrier es) m) k 0
+    apart : (k : ℕ) → k ≢ m .source → remains (getD (raise barrier m) k 0) (getD es k 0) ≡ getD (raise (shortened barrier es) m) k 0
     apart k other =
-        ap (λ (b : ℕ). left b (getD es k 0)) (raise-other barrier m k other)
+        ap (λ (b : ℕ). remains b (getD es k 0)) (raise-other barrier m k other)
         ∙ sym (raise-other (shortened barrier es) m k other ∙ getD-shortened barrier es k)
 
-    same : m .source < length barrier → left (getD (raise barrier m) (m .source) 0) (getD es (m .source) 0) ≡ getD (raise (shortened barrier es) m) (m .source) 0
+    same : m .source < length barrier → remains (getD (raise barrier m) (m .source) 0) (getD es (m .source) 0) ≡ getD (raise (shortened barrier es) m) (m .source) 0
     same lt =
         let b = getD barrier (m .source) 0 in
         let entry = getD es (m .source) 0 in

@@ -13,12 +13,15 @@ use Rattle.rules.specs.Panel.{Make, oldMake, newMake, Panel}
 unfoldable pub raise : List ℕ → Message → List ℕ
 raise numbers m = set numbers (m .source) (max (getD numbers (m .source) 0) (m .deadline))
 
--- the barrier without each entry that is at most the entry of a message for the same panel. (Where the message has none, which is 0, the
--- barrier's entry stays.)
+-- what is left of a barrier entry beside the entry of a message for the same panel: none, which is 0, if it is at most that one
+abbrev pub remains : ℕ → ℕ → ℕ
+remains b entry = cond (leb b entry) 0 b
+
+-- what is left of a barrier beside the entries of a message. (Where the message has none, which is 0, the barrier's entry stays.)
 unfoldable pub shortened : List ℕ → List ℕ → List ℕ
 shortened [] entries = []
 shortened (b ∷ barrier) [] = b ∷ barrier
-shortened (b ∷ barrier) (entry ∷ entries) = cond (leb b entry) 0 b ∷ shortened barrier entries
+shortened (b ∷ barrier) (entry ∷ entries) = remains b entry ∷ shortened barrier entries
 
 -- Document 02, W-204: "When a message is handed, each barrier entry that is at most the entry this message carries for the same panel is
 -- removed, before the message's own goes in." A panel of the old make removes none.

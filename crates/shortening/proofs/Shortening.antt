@@ -1,7 +1,6 @@
 -- A walk over the entries of a frame that removes barrier entries. Assumes nothing.
 use mathlib.Core.Path.{_≡_, refl, sym, ap, _∙_}
 use mathlib.Core.Logic.{by-cases}
-use mathlib.Core.Bool.{cond}
 use mathlib.Core.List.{List}
 use Prim.Native.Nat.{ℕ, _+_, _-_, _*_, _^_, _≤_, _<_}
 use native.Mathlib.Decide.{ℕ-discrete, decLt}
@@ -9,17 +8,12 @@ use native.Mathlib.Omega.{arith}
 use lib.ListN.{length, getD, set, length-set, List·getD-eq-default}
 use lib.Seq.{getD-set-same, getD-set-other, ext-getD}
 use lib.Bits.{bitAnd}
-use lib.Dec.{leb}
 use Rattle.numbers.specs.Numbers.{numberAt}
 use Rattle.frame.specs.Reading.{maskIn, messageIn}
-use Rattle.rules.specs.Handing.{shortened}
+use Rattle.rules.specs.Handing.{remains, shortened}
 use Rattle.rules.proofs.Shortened.{without-entry, getD-shortened, length-shortened}
 use Rattle.slots.proofs.SetBits.{next}
 use Rattle.slots.proofs.Walk.{entryOf, Walk, walk-start, end-none, turn-entry, turn-above, turn-skips, walk-on}
-
--- what is left of a barrier entry, beside the one carried for the same panel
-abbrev pub remains : ℕ → ℕ → ℕ
-remains entry carried = cond (leb entry carried) 0 entry
 
 module _ (bs before : List ℕ) where
   -- the barrier as it is to be

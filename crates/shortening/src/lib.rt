@@ -2,16 +2,14 @@
 // Preconditions: readable frames; the calls of a panel refuse anything else.
 use numbers::number_at;
 ghost use mathlib.Core.Path.{_≡_};
-ghost use mathlib.Core.Bool.{cond};
-ghost use lib.Dec.{leb};
 ghost use Rattle.frame.specs.Reading.{messageIn};
-ghost use Rattle.rules.specs.Handing.{shortened};
+ghost use Rattle.rules.specs.Handing.{remains, shortened};
 ghost use Rattle.slots.specs.Slots.{Reads};
 
 // What is left of a barrier entry, where a message carries an entry for the same panel: none, which is
 // 0, if it is at most that one.
 fn remaining(entry: u32, carried: u32) -> u32
-    ensures { λ r. ⌜ r ≡ cond (leb entry carried) 0 entry ⌝ }
+    ensures { λ r. ⌜ r ≡ remains entry carried ⌝ }
 {
     if entry <= carried {
         return 0;

@@ -8,9 +8,10 @@ use denote.Ref.{now}
 use lib.ListN.{length, getD}
 use lib.Bits.{and-le-r}
 use Rattle.frame.proofs.Passed.{zero-passed}
+use Rattle.rules.specs.Handing.{remains}
 use Rattle.slots.proofs.SetBits.{next}
 use Rattle.slots.proofs.Walk.{turn-lt, turn-room}
-use Rattle.shortening.proofs.Shortening.{remains, ShortBelow, short-start, short-end, short-on}
+use Rattle.shortening.proofs.Shortening.{ShortBelow, short-start, short-end, short-on}
 use Rattle.shortening.proofs.shorten.Statement.{statement}
 use Rattle.shortening.proofs.shorten.Tie as tie
 

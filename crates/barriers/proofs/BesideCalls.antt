@@ -2,7 +2,7 @@
 -- records, no longer frame. Assumes nothing.
 use Prim.Native.Nat.{ℕ, zero, suc, _+_, _≤_}
 use native.Mathlib.Omega.{arith}
-use mathlib.Core.Path.{_≡_, refl, ap}
+use mathlib.Core.Path.{_≡_, refl, sym, ap, _∙_}
 use mathlib.Core.Bool.{Bool, true, false, cond, not}
 use mathlib.Core.List.{List, [], _∷_, _++_}
 use lib.ListN.{length, getD}
@@ -15,9 +15,10 @@ use Rattle.frame.proofs.Places.{length-frame}
 use Rattle.rules.specs.Sizes.{width}
 use Rattle.rules.specs.Panel.{Make, Panel, none64, lapsed, met, ready}
 use Rattle.rules.specs.Settling.{withWaiting, handThen, settle}
-use Rattle.rules.specs.Calls.{handAndSettle, sendDeadline, newMessage, emptied, sending, receiving, withTime, alive, dropLapsed, clocking}
-use Rattle.rules.specs.Refusals.{someAbove, broken, tooFarAhead, sendChecks, messageChecks, receiveChecks, clockChecks}
-use Rattle.rules.specs.Results.{Call, send, receive, clock, outputOf, bufferOf, checksOf, effectOf, frameOf, Result, refused, done, unless, defined}
+use Rattle.rules.specs.Calls.{handAndSettle, sendDeadline, newMessage, emptied, sending, receiving, withTime, alive, dropLapsed, clocking, settingBack}
+use Rattle.rules.specs.Refusals.{someAbove, broken, tooFarAhead, sendChecks, messageChecks, receiveChecks, clockChecks, setBackChecks}
+use Rattle.rules.specs.Results.{Call, send, receive, clock, setBack, outputOf, bufferOf, checksOf, effectOf, frameOf, Result, refused, done, unless, defined}
+use Rattle.rules.proofs.Missed.{missed-none}
 use Rattle.barriers.specs.Barriers.{withBarrier}
 use Rattle.barriers.proofs.BesideOld.{Beside, beside-emptied, BesideSettled, handThen-beside, settle-beside}
 
@@ -34,7 +35,9 @@ module _ (p : Panel) (make : Make) (b : List ℕ) (B : Beside p b) where
 
   sending-beside : (payload : List ℕ) (lifetime : ℕ) → BesideSettled make (sending p payload lifetime) (sending q payload lifetime)
   unfolding sending handAndSettle newMessage sendDeadline
-  sending-beside payload lifetime = handThen-beside settle settle-beside (emptied p) make none64 (beside-emptied p b B) (newMessage p payload lifetime) b
+  sending-beside payload lifetime =
+      handThen-beside settle settle-beside (emptied p) make none64 (beside-emptied p b B) (newMessage p payload lifetime) b
+      (missed-none _ _ _ b (λ k. omega (arith, B .at-most k, B .below-mark k)) ∙ sym (missed-none _ _ _ (p .barrier) (B .below-mark)))
 
   receiving-beside : (m : Message) → BesideSettled make (receiving p m) (receiving q m)
   unfolding receiving handAndSettle ready met lapsed
@@ -42,7 +45,7 @@ module _ (p : Panel) (make : Make) (b : List ℕ) (B : Beside p b) where
     where
       go : (r : Bool) → BesideSettled make (cond r (handThen settle p m) (settle (withWaiting p (p .waiting ++ (m ∷ [])))))
           (cond r (handThen settle q m) (settle (withWaiting q (p .waiting ++ (m ∷ [])))))
-      go true = handThen-beside settle settle-beside p make b B m (m .entries)
+      go true = handThen-beside settle settle-beside p make b B m (m .entries) refl
       go false = settle-beside (withWaiting p (p .waiting ++ (m ∷ []))) make b B
 
   clocking-beside : (time : ℕ) → BesideSettled make (clocking p time) (clocking q time)
@@ -51,10 +54,15 @@ module _ (p : Panel) (make : Make) (b : List ℕ) (B : Beside p b) where
       rw (alive-beside (withTime p time) make b (p .waiting))
       (settle-beside (dropLapsed (withTime p time)) make b B)
 
+  setting-back-beside : (reading : ℕ) → BesideSettled make (settingBack p reading) (settingBack q reading)
+  unfolding settingBack
+  setting-back-beside reading = record { barrier = b; panel = refl; beside = B; logged = refl; count = refl }
+
   effect-beside : (call : Call) → BesideSettled make (effectOf p call) (effectOf q call)
   effect-beside (send payload lifetime output buffer) = sending-beside payload lifetime
   effect-beside (receive bytes output) = receiving-beside (messageIn width bytes)
   effect-beside (clock time output) = clocking-beside time
+  effect-beside (setBack reading) = setting-back-beside reading
 
   -- ---- its checks
 
@@ -66,10 +74,11 @@ module _ (p : Panel) (make : Make) (b : List ℕ) (B : Beside p b) where
   broken-beside = rw (within b (λ k. omega (arith, B .at-most k, B .below-high k)), within (p .barrier) (B .below-high))
 
   checks-beside : (call : Call) → checksOf q call ≡ checksOf p call
-  unfolding sendChecks receiveChecks clockChecks messageChecks sendDeadline lapsed tooFarAhead ready met
+  unfolding sendChecks receiveChecks clockChecks setBackChecks messageChecks sendDeadline lapsed tooFarAhead ready met
   checks-beside (send payload lifetime output buffer) = rw broken-beside
   checks-beside (receive bytes output) = rw broken-beside
   checks-beside (clock time output) = rw broken-beside
+  checks-beside (setBack reading) = rw broken-beside
 
 -- ---- its frame
 
@@ -94,6 +103,7 @@ frame-beside p make b B (send payload lifetime output buffer) =
     )
 frame-beside p make b B (receive bytes output) = omega arith
 frame-beside p make b B (clock time output) = omega arith
+frame-beside p make b B (setBack reading) = omega arith
 
 -- ---- its result
 

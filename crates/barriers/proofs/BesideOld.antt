@@ -1,6 +1,6 @@
 -- Handing and settling at a panel of either make, beside one of the old make whose barrier is nowhere lower: the same log records, and again
 -- such a barrier. Assumes nothing.
-use Prim.Native.Nat.{ℕ, zero, suc, _+_, _≤_}
+use Prim.Native.Nat.{ℕ, zero, suc, _+_, _≤_, max}
 use native.Mathlib.Omega.{arith}
 use mathlib.Core.Path.{_≡_, refl, sym, ap, _∙_}
 use mathlib.Core.Logic.{_⊎_, ⊎-elim}
@@ -10,7 +10,7 @@ use mathlib.Core.List.{List, [], _∷_, _++_}
 use lib.ListN.{length, getD}
 use Rattle.frame.specs.Message.{Message, messageOf}
 use Rattle.rules.specs.Panel.{Make, oldMake, Panel, none64, lapsed, met, ready}
-use Rattle.rules.specs.Handing.{raise, barrierFor, hand, logRecord, logRecords}
+use Rattle.rules.specs.Handing.{raise, barrierFor, missed, hand, logRecord, logRecords}
 use Rattle.rules.specs.Settling.{choice, chosen, without, withWaiting, Settled, waitingAt, handThen, goOn, settleIn, settle}
 use Rattle.rules.specs.Calls.{emptied}
 use Rattle.rules.specs.Results.{done}
@@ -29,7 +29,7 @@ pub record BesideOf (make : Make) (marks barrier : List ℕ) (high : ℕ) (b : L
   pub barrier-64 : length barrier ≡ 64
   pub marks-64 : length marks ≡ 64
 
--- the waiting list and the time make no difference
+-- the waiting list, the time and the floor make no difference
 abbrev pub Beside : Panel → List ℕ → Type 0
 Beside p b = BesideOf (p .make) (p .marks) (p .barrier) (p .high) b
 
@@ -51,7 +51,12 @@ barrierFor-old : (make : Make) (p : Panel) (m : Message) → make ≡ oldMake �
 unfolding barrierFor
 barrierFor-old make p m e = rw e
 
-module _ (p : Panel) (make : Make) (b : List ℕ) (B : Beside p b) (source deadline : ℕ) (entries entries′ payload : List ℕ) where
+-- the entries that a panel would miss, of a message that carries these
+abbrev pub missedAt : Panel → List ℕ → ℕ
+missedAt p entries = missed (p .time) (p .floor) (λ k. getD (p .marks) k 0) entries
+
+module _ (p : Panel) (make : Make) (b : List ℕ) (B : Beside p b) (source deadline : ℕ) (entries entries′ payload : List ℕ)
+    (same : missedAt p entries′ ≡ missedAt p entries) where
   abbrev m : Message
   m = messageOf source deadline entries payload
 
@@ -82,7 +87,20 @@ module _ (p : Panel) (make : Make) (b : List ℕ) (B : Beside p b) (source deadl
 
   hand-beside : hand q n ≡ withBarrier (hand p m) make (raise (barrierFor make q n) n)
   unfolding hand raise
-  hand-beside = refl
+  hand-beside =
+      ap
+      (λ (risen : ℕ).
+      record {
+        own = p .own;
+        time = p .time;
+        high = hand p m .high;
+        marks = raise (p .marks) m;
+        barrier = raise (barrierFor make q n) n;
+        waiting = p .waiting;
+        floor = max (p .floor) risen;
+        make = make;
+      })
+      same
 
 -- ---- settling
 
@@ -105,15 +123,16 @@ abbrev pub Settler : (Panel → Settled) → Type 0
 Settler settler = (p : Panel) (make : Make) (b : List ℕ) → Beside p b → BesideSettled make (settler p) (settler (withBarrier p make b))
 
 -- a message, or the same with other entries, is handed first
-module _ (settler : Panel → Settled) (settles : Settler settler) (p : Panel) (make : Make) (b : List ℕ) (B : Beside p b) (m : Message) (entries′ : List ℕ) where
+module _ (settler : Panel → Settled) (settles : Settler settler) (p : Panel) (make : Make) (b : List ℕ) (B : Beside p b) (m : Message) (entries′ : List ℕ)
+    (missed-same : missedAt p entries′ ≡ missedAt p (m .entries)) where
   abbrev other : Message
   other = messageOf (m .source) (m .deadline) entries′ (m .payload)
 
   pub handThen-beside : BesideSettled make (handThen settler p m) (handThen settler (withBarrier p make b) other)
   unfolding logRecords logRecord
   handThen-beside =
-      let same = hand-beside p make b B (m .source) (m .deadline) (m .entries) entries′ (m .payload) in
-      let rest = settles (hand p m) make _ (beside-hand p make b B (m .source) (m .deadline) (m .entries) entries′ (m .payload)) in
+      let same = hand-beside p make b B (m .source) (m .deadline) (m .entries) entries′ (m .payload) missed-same in
+      let rest = settles (hand p m) make _ (beside-hand p make b B (m .source) (m .deadline) (m .entries) entries′ (m .payload) missed-same) in
       let here : BesideSettled make (settler (hand p m)) (settler (hand (withBarrier p make b) other)) = rw same rest in
       record {
         barrier = here .barrier;
@@ -133,7 +152,7 @@ settleIn-beside (suc n) p make b B =
     go rest none = record { barrier = b; panel = refl; beside = B; logged = refl; count = refl }
     go rest (some place) =
         let m = waitingAt p place in
-        handThen-beside (settleIn n) rest (withWaiting p (without place (p .waiting))) make b B m (m .entries)
+        handThen-beside (settleIn n) rest (withWaiting p (without place (p .waiting))) make b B m (m .entries) refl
 
 pub settle-beside : Settler settle
 unfolding settle

@@ -6,7 +6,7 @@ use mathlib.Core.List.{List, [], _∷_, List·Memᴰ·head as first, List·Mem�
 use lib.ListN.{replicate}
 use Rattle.rules.specs.Panel.{Name, oldMake, newMake, Panel}
 use Rattle.rules.specs.Handing.{shortened}
-use Rattle.rules.specs.Results.{Call, send, receive, clock, Result, defined}
+use Rattle.rules.specs.Results.{Call, send, receive, clock, setBack, Result, defined}
 use Rattle.rules.specs.Lists.{Made, direct, Lawful, ran}
 use Rattle.rules.specs.Demand3.{NoneAhead}
 use Rattle.rules.specs.Cases.{output, buffer, frameFrom, zeros8}
@@ -18,6 +18,7 @@ pub removesByTheMark : Panel → Call → Result
 removesByTheMark p (send payload lifetime output buffer) = defined p (send payload lifetime output buffer)
 removesByTheMark p (receive bytes output) = defined (withBarrier p oldMake (shortened (p .barrier) (p .marks))) (receive bytes output)
 removesByTheMark p (clock time output) = defined p (clock time output)
+removesByTheMark p (setBack reading) = defined p (setBack reading)
 
 -- Panel 1 sends A, panel 2 sends B; panel 3 hears both, and sends C. Its frame names B alone, as the entry of A was removed when B came, though B
 -- does not name A. Panel 0 hears B, then C, and A at the end.

@@ -16,7 +16,16 @@ asOld list = ran defined (map (λ (made : Made). (made .at, oldMake, made .call)
 -- the record with another make and another barrier
 abbrev pub withBarrier : Panel → Make → List ℕ → Panel
 withBarrier p make barrier =
-    record { own = p .own; time = p .time; high = p .high; marks = p .marks; barrier = barrier; waiting = p .waiting; make = make }
+    record {
+      own = p .own;
+      time = p .time;
+      high = p .high;
+      marks = p .marks;
+      barrier = barrier;
+      waiting = p .waiting;
+      floor = p .floor;
+      make = make;
+    }
 
 -- Whatever frames the calls are given,
 pub record NoLonger (old new : Panel) : Type 0 where

@@ -18,14 +18,15 @@ pub extern "C" fn panel_beacon_parts(
     marks: &mut [u32; 64],
     barrier: &mut [u32; 64],
     slots: &mut [u8; 9888],
+    floor: &mut u32,
     payload: &[u8],
     output: &mut [u8],
     buffer: &mut [u8],
 ) -> Answer
     ensures { λ r. ⌜ PromisedInPlace
-        (parts own time (now (high .entry)) (now (count .entry)) (now (marks .entry)) (now (barrier .entry)) (now (slots .entry)))
+        (parts own time (now (high .entry)) (now (count .entry)) (now (marks .entry)) (now (barrier .entry)) (now (slots .entry)) (now (floor .entry)))
         (send (now (payload .entry)) beaconLifetime (now (output .entry)) (now (buffer .entry))) r
-        (parts own time (now (high .exit)) (now (count .exit)) (now (marks .exit)) (now (barrier .exit)) (now (slots .exit)))
+        (parts own time (now (high .exit)) (now (count .exit)) (now (marks .exit)) (now (barrier .exit)) (now (slots .exit)) (now (floor .exit)))
         (now (output .exit)) (now (buffer .exit)) ⌝ }
 {
     send_in_place(
@@ -36,6 +37,7 @@ pub extern "C" fn panel_beacon_parts(
         marks,
         barrier,
         slots,
+        floor,
         payload,
         BEACON_LIFETIME,
         output,

@@ -6,6 +6,7 @@ use Rattle.panel.specs.Record.{recordOf}
 use Rattle.by_value.specs.declared.Sent.{Sent}
 use Rattle.by_value.specs.declared.Received.{Received}
 use Rattle.by_value.specs.declared.Clocked.{Clocked}
+use Rattle.by_value.specs.declared.SetBack.{SetBack}
 
 abbrev pub sentResult : Sent → List ℕ → List ℕ → Result
 sentResult answer output buffer =
@@ -25,3 +26,7 @@ receivedResult answer output =
 abbrev pub clockedResult : Clocked → List ℕ → Result
 clockedResult answer output =
     record { number = answer .number; panel = recordOf (answer .panel); count = answer .count; output = output; frameLength = 0; buffer = [] }
+
+abbrev pub setBackResult : SetBack → Result
+setBackResult answer =
+    record { number = answer .number; panel = recordOf (answer .panel); count = 0; output = []; frameLength = 0; buffer = [] }

@@ -17,6 +17,7 @@ pub fn panel_clock(mut p: Panel, time: u32, output: &mut [u8]) -> Clocked
     let mut count = p.count;
     let mut marks = p.marks;
     let mut barrier = p.barrier;
+    let mut floor = p.floor;
     let answer = clock_in_place(
         p.own,
         &mut at,
@@ -25,6 +26,7 @@ pub fn panel_clock(mut p: Panel, time: u32, output: &mut [u8]) -> Clocked
         &mut marks,
         &mut barrier,
         &mut p.slots,
+        &mut floor,
         time,
         output,
     );
@@ -33,6 +35,7 @@ pub fn panel_clock(mut p: Panel, time: u32, output: &mut [u8]) -> Clocked
     p.count = count;
     p.marks = marks;
     p.barrier = barrier;
+    p.floor = floor;
     Clocked {
         panel: p,
         count: answer.count,

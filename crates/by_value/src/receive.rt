@@ -16,6 +16,7 @@ pub fn panel_receive<'a, 'b>(mut p: Panel, frame: &'a [u8], output: &'b mut [u8]
     let mut count = p.count;
     let mut marks = p.marks;
     let mut barrier = p.barrier;
+    let mut floor = p.floor;
     let answer = receive_in_place(
         p.own,
         p.time,
@@ -24,6 +25,7 @@ pub fn panel_receive<'a, 'b>(mut p: Panel, frame: &'a [u8], output: &'b mut [u8]
         &mut marks,
         &mut barrier,
         &mut p.slots,
+        &mut floor,
         frame,
         output,
     );
@@ -31,6 +33,7 @@ pub fn panel_receive<'a, 'b>(mut p: Panel, frame: &'a [u8], output: &'b mut [u8]
     p.count = count;
     p.marks = marks;
     p.barrier = barrier;
+    p.floor = floor;
     Received {
         panel: p,
         count: answer.count,

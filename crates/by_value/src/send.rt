@@ -23,6 +23,7 @@ pub fn panel_send<'a, 'b, 'c>(
     let mut count = p.count;
     let mut marks = p.marks;
     let mut barrier = p.barrier;
+    let mut floor = p.floor;
     let answer = send_in_place(
         p.own,
         p.time,
@@ -31,6 +32,7 @@ pub fn panel_send<'a, 'b, 'c>(
         &mut marks,
         &mut barrier,
         &mut p.slots,
+        &mut floor,
         payload,
         lifetime,
         output,
@@ -40,6 +42,7 @@ pub fn panel_send<'a, 'b, 'c>(
     p.count = count;
     p.marks = marks;
     p.barrier = barrier;
+    p.floor = floor;
     Sent {
         panel: p,
         count: answer.count,

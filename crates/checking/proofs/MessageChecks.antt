@@ -9,28 +9,29 @@ use borrow.Author.Tests.{lt-ltb, le-ltb, le-leb, lt-leb, eq-eqb, ne-eqb}
 use Rattle.frame.specs.Message.{Message}
 use Rattle.frame.specs.Refusal.{firstOf}
 use Rattle.frame.proofs.FirstOf.{Past, pass, stop, eachNumber, Past-take, firstOf-take}
-use Rattle.rules.specs.Panel.{Panel, lapsed, met, ready}
+use Rattle.rules.specs.Panel.{Panel, hasLapsed, lapsed, met, ready}
 use Rattle.rules.specs.Refusals.{isWaiting, farthestAhead, tooFarAhead, messageChecks}
 use Rattle.choosing.specs.Choice.{asking}
 use Rattle.parts.specs.Record.{parts, recordOf}
 use Rattle.checking.specs.Checks.{earlyChecks, fullNumber}
 
--- ready asks for the marks and the time alone
-pub ready-asking : (p : Panel) (m : Message) → ready (asking (p .marks) (p .time)) m ≡ ready p m
+-- ready asks for the marks, the time and the floor alone
+pub ready-asking : (p : Panel) (m : Message) → ready (asking (p .marks) (p .time) (p .floor)) m ≡ ready p m
 unfolding ready met lapsed
 ready-asking p m = refl
 
 -- and the checks for neither high nor barrier
-pub checks-asking : (own time high count : ℕ) (marks barrier slots : List ℕ) (m : Message)
-    → messageChecks (recordOf (parts own time 0 count marks [] slots)) m ≡ messageChecks (recordOf (parts own time high count marks barrier slots)) m
+pub checks-asking : (own time high count : ℕ) (marks barrier slots : List ℕ) (floor : ℕ) (m : Message)
+    → messageChecks (recordOf (parts own time 0 count marks [] slots floor)) m
+    ≡ messageChecks (recordOf (parts own time high count marks barrier slots floor)) m
 unfolding messageChecks tooFarAhead lapsed met ready
-checks-asking own time high count marks barrier slots m = refl
+checks-asking own time high count marks barrier slots floor m = refl
 
 -- ---- all but the last
 
-module _ (own time : ℕ) (marks slots : List ℕ) (count : ℕ) (m : Message) where
+module _ (own time : ℕ) (marks slots : List ℕ) (count floor : ℕ) (m : Message) where
   abbrev panel : Panel
-  panel = recordOf (parts own time 0 count marks [] slots)
+  panel = recordOf (parts own time 0 count marks [] slots floor)
 
   abbrev pub table : List (Bool × ℕ)
   table = earlyChecks panel m
@@ -50,13 +51,13 @@ module _ (own time : ℕ) (marks slots : List ℕ) (count : ℕ) (m : Message) w
 
   -- ---- 21
 
-  pub number-lapsed : Past table 1 → m .deadline < time → 21 ≡ firstOf table
+  pub number-lapsed : Past table 1 → hasLapsed time floor (m .deadline) ≡ true → 21 ≡ firstOf table
   unfolding messageChecks lapsed
-  number-lapsed past lt = stop table 1 past (lt-ltb (m .deadline) time lt)
+  number-lapsed past late = stop table 1 past late
 
-  pub past-lapsed : Past table 1 → time ≤ m .deadline → Past table 2
+  pub past-lapsed : Past table 1 → hasLapsed time floor (m .deadline) ≡ false → Past table 2
   unfolding messageChecks lapsed
-  past-lapsed past live = pass table 1 past (le-ltb (m .deadline) time live)
+  past-lapsed past live = pass table 1 past live
 
   -- ---- 32
 

@@ -4,6 +4,7 @@ use choosing::ready;
 use frame::frame_check;
 use parts::broken;
 use slots::deadline;
+use slots::has_lapsed;
 use slots::is_waiting;
 use slots::source;
 ghost use mathlib.Core.Path.{_≡_};
@@ -41,10 +42,11 @@ fn early_number<'a, 'b>(
     count: usize,
     marks: &'a [u32; 64],
     slots: &'a [u8],
+    floor: u32,
     frame: &'b [u8],
 ) -> u8
     requires { ⌜ Reads (now frame) × Slots (now slots) × Kept (now slots) count ⌝ }
-    ensures { λ r. ⌜ r ≡ firstOf (earlyChecks (recordOf (parts own time 0 count (now (marks .entry)) [] (now (slots .entry))))
+    ensures { λ r. ⌜ r ≡ firstOf (earlyChecks (recordOf (parts own time 0 count (now (marks .entry)) [] (now (slots .entry)) floor))
         (messageIn 4 (now (frame .entry)))) ⌝ }
 {
     let from = source(frame);
@@ -53,7 +55,7 @@ fn early_number<'a, 'b>(
     if from == own {
         return 20; // its source is the own number
     }
-    if due < time {
+    if has_lapsed(due, time, floor) {
         return 21; // it has lapsed
     }
     if FARTHEST_AHEAD < due - time {
@@ -69,14 +71,20 @@ fn early_number<'a, 'b>(
 }
 
 // The number of the last check of a message, 23, or 0. With a place free nobody asks whether it is ready.
-fn place_number<'a, 'b>(time: u32, count: usize, marks: &'a [u32; 64], frame: &'b [u8]) -> u8
+fn place_number<'a, 'b>(
+    time: u32,
+    count: usize,
+    marks: &'a [u32; 64],
+    floor: u32,
+    frame: &'b [u8],
+) -> u8
     requires { ⌜ Reads (now frame) ⌝ }
-    ensures { λ r. ⌜ r ≡ fullNumber count (isReady (asking (now (marks .entry)) time) (messageIn 4 (now (frame .entry)))) ⌝ }
+    ensures { λ r. ⌜ r ≡ fullNumber count (isReady (asking (now (marks .entry)) time floor) (messageIn 4 (now (frame .entry)))) ⌝ }
 {
     if count < 32 {
         return 0;
     }
-    let tested = ready(frame, marks, time);
+    let tested = ready(frame, marks, time, floor);
     if tested.ready {
         return 0;
     }
@@ -90,17 +98,18 @@ pub fn message_number<'a, 'b>(
     count: usize,
     marks: &'a [u32; 64],
     slots: &'a [u8],
+    floor: u32,
     frame: &'b [u8],
 ) -> u8
     requires { ⌜ Reads (now frame) × Slots (now slots) × Kept (now slots) count ⌝ }
-    ensures { λ r. ⌜ r ≡ firstOf (messageChecks (recordOf (parts own time 0 count (now (marks .entry)) [] (now (slots .entry))))
+    ensures { λ r. ⌜ r ≡ firstOf (messageChecks (recordOf (parts own time 0 count (now (marks .entry)) [] (now (slots .entry)) floor))
         (messageIn 4 (now (frame .entry)))) ⌝ }
 {
-    let number = early_number(own, time, count, marks, slots, frame);
+    let number = early_number(own, time, count, marks, slots, floor, frame);
     if number != 0 {
         return number;
     }
-    place_number(time, count, marks, frame)
+    place_number(time, count, marks, floor, frame)
 }
 
 // The number of the first check that turns down a frame, or 0: 26, 10, 1 to 8, 20, 21, 32, 22, 23.
@@ -112,12 +121,13 @@ pub fn receive_number<'a, 'b>(
     marks: &'a [u32; 64],
     barrier: &'a [u32; 64],
     slots: &'a [u8],
+    floor: u32,
     frame: &'b [u8],
     output: &'b [u8],
 ) -> u8
     requires { ⌜ Slots (now slots) ⌝ }
     ensures { λ r. ⌜ r ≡ firstOf (receiveChecks
-        (recordOf (parts own time high count (now (marks .entry)) (now (barrier .entry)) (now (slots .entry))))
+        (recordOf (parts own time high count (now (marks .entry)) (now (barrier .entry)) (now (slots .entry)) floor))
         (now (frame .entry)) (now (output .entry))) ⌝ }
 {
     let broken = broken(own, high, count, marks, barrier, slots);
@@ -125,5 +135,5 @@ pub fn receive_number<'a, 'b>(
     if number != 0 {
         return number;
     }
-    message_number(own, time, count, marks, slots, frame)
+    message_number(own, time, count, marks, slots, floor, frame)
 }

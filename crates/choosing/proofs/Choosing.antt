@@ -122,7 +122,7 @@ firstBelow-all p ms place le = ap (λ (l : List Message). firstIn l (choice p l)
 -- ---- what is found, and the choice
 
 -- the choice asks for the marks and the time alone
-choice-asking : (p : Panel) (ms : List Message) → choice p ms ≡ choice (asking (p .marks) (p .time)) ms
+choice-asking : (p : Panel) (ms : List Message) → choice p ms ≡ choice (asking (p .marks) (p .time) (p .floor)) ms
 unfolding choice ready met lapsed
 choice-asking p [] = refl
 choice-asking p (m ∷ ms) = ap (chosen (ready p m) m ms) (choice-asking p ms)
@@ -135,7 +135,7 @@ found-some : (ms : List Message) (o : Option ℕ) → firstIn ms o .found ≡ tr
 found-some ms none e = absurd (true≢false (sym e))
 found-some ms (some place) e = refl
 
-module _ (p : Panel) (ms : List Message) (first : First) (is : first ≡ firstIn ms (choice (asking (p .marks) (p .time)) ms)) where
+module _ (p : Panel) (ms : List Message) (first : First) (is : first ≡ firstIn ms (choice (asking (p .marks) (p .time) (p .floor)) ms)) where
   pub firstIn-none : first .found ≡ false → choice p ms ≡ none
   firstIn-none e = choice-asking p ms ∙ found-none ms _ (ap (λ (x : First). x .found) (sym is) ∙ e)
 

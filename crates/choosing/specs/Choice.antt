@@ -9,9 +9,10 @@ use Rattle.frame.specs.Message.{Message, messageOf}
 use Rattle.rules.specs.Panel.{newMake, Panel}
 use Rattle.choosing.specs.declared.First.{First}
 
--- a record of these marks and this time, which is all that ready asks for
-abbrev pub asking : List ℕ → ℕ → Panel
-asking marks time = record { own = 0; time = time; high = 0; marks = marks; barrier = []; waiting = []; make = newMake }
+-- a record of these marks, this time and this floor, which is all that ready asks for
+abbrev pub asking : List ℕ → ℕ → ℕ → Panel
+asking marks time floor =
+    record { own = 0; time = time; high = 0; marks = marks; barrier = []; waiting = []; floor = floor; make = newMake }
 
 -- ---- the choice
 

@@ -2,6 +2,7 @@
 // Precondition: slots that hold readable frames; the calls of a panel refuse any other record.
 use numbers::number_at;
 use slots::deadline;
+use slots::has_lapsed;
 use slots::kept_frame;
 use slots::source;
 ghost use mathlib.Core.Path.{_≡_};
@@ -32,21 +33,21 @@ pub struct First {
 }
 
 // Whether an entry is met by its panel's mark, or has lapsed.
-fn is_met(entry: u32, mark: u32, time: u32) -> bool
-    ensures { λ r. ⌜ r ≡ met (asking (mark ∷ []) time) 0 entry ⌝ }
+fn is_met(entry: u32, mark: u32, time: u32, floor: u32) -> bool
+    ensures { λ r. ⌜ r ≡ met (asking (mark ∷ []) time floor) 0 entry ⌝ }
 {
     if entry <= mark {
         return true;
     }
-    entry < time
+    has_lapsed(entry, time, floor)
 }
 
 // Whether the message of a readable frame is ready: from set bit to set bit of its mask, lowest first,
 // up to the first entry that is not met.
-pub fn ready(frame: &[u8], marks: &[u32; 64], time: u32) -> Tested
+pub fn ready(frame: &[u8], marks: &[u32; 64], time: u32, floor: u32) -> Tested
     requires { ⌜ Reads (now frame) ⌝ }
-    ensures { λ r. ⌜ r .ready ≡ isReady (asking (now (marks .entry)) time) (messageIn 4 (now (frame .entry))) ⌝ }
-    ensures { λ r. ⌜ r .visited ≡ visits (asking (now (marks .entry)) time) (messageIn 4 (now (frame .entry))) ⌝ }
+    ensures { λ r. ⌜ r .ready ≡ isReady (asking (now (marks .entry)) time floor) (messageIn 4 (now (frame .entry))) ⌝ }
+    ensures { λ r. ⌜ r .visited ≡ visits (asking (now (marks .entry)) time floor) (messageIn 4 (now (frame .entry))) ⌝ }
 {
     let mut bits = number_at(frame, 10, 8);
     let mut visited = 0;
@@ -54,7 +55,7 @@ pub fn ready(frame: &[u8], marks: &[u32; 64], time: u32) -> Tested
         let panel = u64::trailing_zeros(bits) as usize;
         let entry = number_at(frame, 18 + 4 * visited, 4) as u32;
         let with_this = visited + 1;
-        if !is_met(entry, marks[panel], time) {
+        if !is_met(entry, marks[panel], time, floor) {
             return Tested {
                 ready: false,
                 visited: with_this,
@@ -88,9 +89,10 @@ fn consider<'a, 'b>(
     slots: &'a [u8],
     marks: &'b [u32; 64],
     time: u32,
+    floor: u32,
 ) -> First
     requires { ⌜ Slots (now slots) × (slot < 32) × Reads (frameIn (now slots) slot) ⌝ }
-    ensures { λ r. ⌜ r ≡ considered (isReady (asking (now (marks .entry)) time) (messageIn 4 (frameIn (now (slots .entry)) slot)))
+    ensures { λ r. ⌜ r ≡ considered (isReady (asking (now (marks .entry)) time floor) (messageIn 4 (frameIn (now (slots .entry)) slot)))
         place (messageIn 4 (frameIn (now (slots .entry)) slot)) first ⌝ }
 {
     let frame = kept_frame(slots, slot);
@@ -99,7 +101,7 @@ fn consider<'a, 'b>(
             return first;
         }
     }
-    let tested = ready(frame, marks, time);
+    let tested = ready(frame, marks, time, floor);
     if !tested.ready {
         return first;
     }
@@ -117,11 +119,12 @@ pub fn choice<'a, 'b, 'c>(
     places: &'a [u8; 32],
     marks: &'b [u32; 64],
     time: u32,
+    floor: u32,
     slots: &'c [u8],
 ) -> First
     requires { ⌜ Slots (now slots) × Listed (now slots) waiting (now places) × (length (now places) ≡ 32) ⌝ }
     ensures { λ r. ⌜ r ≡ firstIn (held (now (slots .entry)) (take waiting (now (places .entry))))
-        (choiceIn (asking (now (marks .entry)) time) (held (now (slots .entry)) (take waiting (now (places .entry))))) ⌝ }
+        (choiceIn (asking (now (marks .entry)) time floor) (held (now (slots .entry)) (take waiting (now (places .entry))))) ⌝ }
 {
     let mut first = First {
         found: false,
@@ -132,7 +135,7 @@ pub fn choice<'a, 'b, 'c>(
     let mut place = 0;
     while place < waiting {
         let slot = places[place] as usize;
-        first = consider(first, place, slot, slots, marks, time);
+        first = consider(first, place, slot, slots, marks, time, floor);
         place += 1;
     }
     first

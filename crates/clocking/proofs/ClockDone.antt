@@ -24,19 +24,19 @@ pub clockChecks-on : (p : Record) (time : ℕ) (output : List ℕ) → clockChec
 unfolding clockChecks
 clockChecks-on p time output = refl
 
-module _ (p : Parts) (time : ℕ) (output : List ℕ) (kept : Places) (alive : Alive (p .slots) (p .count) time kept) where
+module _ (p : Parts) (time : ℕ) (output : List ℕ) (kept : Places) (alive : Alive (p .slots) (p .count) time (p .floor) kept) where
   abbrev given : Record
   given = recordOf p
 
   -- the record with its time set and the lapsed dropped, as it begins to settle
   abbrev pub begun : Settling
-  begun = record { own = p .own; time = time; high = p .high; waiting = kept .count; handed = 0 }
+  begun = record { own = p .own; time = time; high = p .high; waiting = kept .count; handed = 0; floor = p .floor }
 
   abbrev pub begunStage : Stage
   begunStage = stage begun (kept .slots) (p .marks) (p .barrier) output
 
   panel-begun : panelAt (p .slots) begunStage ≡ dropLapsed (withTime given time)
-  panel-begun = ap (λ (ms : List Message). withWaiting (withTime given time) ms) (alive .messages (withTime given time) refl)
+  panel-begun = ap (λ (ms : List Message). withWaiting (withTime given time) ms) (alive .messages (withTime given time) refl refl)
 
   pub clocked-done : (slots′ : List ℕ) (after : Stage) (back : Record) → firstOf (clockChecks given time output) ≡ 0
       → SettlesSlots (p .slots) begunStage slots′ after → back ≡ settle (panelAt (p .slots) begunStage) .panel

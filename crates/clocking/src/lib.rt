@@ -1,5 +1,5 @@
-// Clock, in place on a lent record. Of the record it may touch time, high, count, marks, barrier and
-// slots, and beside it the output; the own number it only reads. It accepts any input, and what it
+// Clock, in place on a lent record. Of the record it may touch time, high, count, marks, barrier,
+// slots and floor, and beside it the output; the own number it only reads. It accepts any input, and what it
 // promises is document 01's clock, for every argument. An internal crate: `exports` and `by_value` have
 // the public calls.
 use parts::Answer;
@@ -38,13 +38,14 @@ pub fn clock_in_place(
     marks: &mut [u32; 64],
     barrier: &mut [u32; 64],
     slots: &mut [u8; 9888],
+    floor: &mut u32,
     reading: u32,
     output: &mut [u8],
 ) -> Answer
     ensures { λ r. ⌜ PromisedInPlace
-        (parts own (now (time .entry)) (now (high .entry)) (now (count .entry)) (now (marks .entry)) (now (barrier .entry)) (now (slots .entry)))
+        (parts own (now (time .entry)) (now (high .entry)) (now (count .entry)) (now (marks .entry)) (now (barrier .entry)) (now (slots .entry)) (now (floor .entry)))
         (clock reading (now (output .entry))) r
-        (parts own (now (time .exit)) (now (high .exit)) (now (count .exit)) (now (marks .exit)) (now (barrier .exit)) (now (slots .exit)))
+        (parts own (now (time .exit)) (now (high .exit)) (now (count .exit)) (now (marks .exit)) (now (barrier .exit)) (now (slots .exit)) (now (floor .exit)))
         (now (output .exit)) [] ⌝ }
 {
     let broken = broken(own, *high, *count, marks, barrier, slots);
@@ -56,7 +57,7 @@ pub fn clock_in_place(
             number,
         };
     }
-    let kept = alive(slots, *count, reading);
+    let kept = alive(slots, *count, reading, *floor);
     let places = kept.slots;
     let mut handed = 0;
     *count = settle_slots(
@@ -65,6 +66,7 @@ pub fn clock_in_place(
         high,
         kept.count,
         &mut handed,
+        floor,
         places,
         marks,
         barrier,

@@ -9,6 +9,8 @@ use Rattle.exports.proofs.panel_receive_parts.Statement as panel-receive-parts
 use Rattle.exports.proofs.panel_receive_parts.Met as panel-receive-parts-theorem
 use Rattle.exports.proofs.panel_clock_parts.Statement as panel-clock-parts
 use Rattle.exports.proofs.panel_clock_parts.Met as panel-clock-parts-theorem
+use Rattle.setting_back.proofs.panel_set_back_parts.Statement as panel-set-back-parts
+use Rattle.setting_back.proofs.panel_set_back_parts.Met as panel-set-back-parts-theorem
 use Rattle.tracing.proofs.panel_trace_parts.Statement as panel-trace-parts
 use Rattle.tracing.proofs.panel_trace_parts.Met as panel-trace-parts-theorem
 use Rattle.panel.proofs.panel_fresh.Statement as panel-fresh
@@ -23,6 +25,8 @@ use Rattle.by_value.proofs.panel_receive.Statement as panel-receive
 use Rattle.by_value.proofs.panel_receive.Met as panel-receive-theorem
 use Rattle.by_value.proofs.panel_clock.Statement as panel-clock
 use Rattle.by_value.proofs.panel_clock.Met as panel-clock-theorem
+use Rattle.by_value.proofs.panel_set_back.Statement as panel-set-back
+use Rattle.by_value.proofs.panel_set_back.Met as panel-set-back-theorem
 use Rattle.frame.proofs.frame_check.Statement as frame-check
 use Rattle.frame.proofs.frame_check.Met as frame-check-theorem
 use Rattle.frame.proofs.read.Statement as read
@@ -50,14 +54,15 @@ use Rattle.bundle.proofs.next.Met as next-theorem
 
 -- Each function ends, is safe, and keeps its promise for all arguments.
 pub record Calls (M : Type 1) : Type 2 where
-  -- In place, which is what C calls (crates/exports/src/lib.rt, crates/beacon/src/lib.rt, crates/tracing/src/lib.rt): the call's answer, the
-  -- record that the lent parts then hold and all bytes of its lent buffers are those of `defined`, and a refusal leaves every part as it was. A
-  -- trace is lent nothing that it could change; what it shows is that of `trace`.
+  -- In place, which is what C calls (src/lib.rt of crates/exports, beacon, setting_back and tracing): the call's answer, the record that the
+  -- lent parts then hold and all bytes of its lent buffers are those of `defined`, and a refusal leaves every part as it was. A trace is lent
+  -- nothing that it could change; what it shows is that of `trace`.
   pub panel-fresh-parts : panel-fresh-parts.statement M
   pub panel-send-parts : panel-send-parts.statement M
   pub panel-beacon-parts : panel-beacon-parts.statement M
   pub panel-receive-parts : panel-receive-parts.statement M
   pub panel-clock-parts : panel-clock-parts.statement M
+  pub panel-set-back-parts : panel-set-back-parts.statement M
   pub panel-trace-parts : panel-trace-parts.statement M
   -- The same by value, for callers in Rattle (crates/panel/src/lib.rt, crates/by_value/src): a refusal gives back the very struct.
   pub panel-fresh : panel-fresh.statement M
@@ -65,6 +70,7 @@ pub record Calls (M : Type 1) : Type 2 where
   pub panel-beacon : panel-beacon.statement M
   pub panel-receive : panel-receive.statement M
   pub panel-clock : panel-clock.statement M
+  pub panel-set-back : panel-set-back.statement M
   pub panel-trace : panel-trace.statement M
   -- Frames, read (crates/frame/src/lib.rt) and written (crates/writing/src/lib.rt, which is internal).
   pub frame-check : frame-check.statement M
@@ -90,12 +96,14 @@ calls =
       panel-beacon-parts = panel-beacon-parts-theorem.met;
       panel-receive-parts = panel-receive-parts-theorem.met;
       panel-clock-parts = panel-clock-parts-theorem.met;
+      panel-set-back-parts = panel-set-back-parts-theorem.met;
       panel-trace-parts = panel-trace-parts-theorem.met;
       panel-fresh = panel-fresh-theorem.met;
       panel-send = panel-send-theorem.met;
       panel-beacon = panel-beacon-theorem.met;
       panel-receive = panel-receive-theorem.met;
       panel-clock = panel-clock-theorem.met;
+      panel-set-back = panel-set-back-theorem.met;
       panel-trace = panel-trace-theorem.met;
       frame-check = frame-check-theorem.met;
       read = read-theorem.met;

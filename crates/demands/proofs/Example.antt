@@ -1,6 +1,7 @@
--- A small list of calls in a farm, so that nobody wonders whether any satisfies `Follows` and `Lawful`: panel 3 sets its time to 100, in place;
--- it sends 4F 4B by value, which is case 1; then a beacon, in place; and panel 0 hears the first frame, in place. Panel 1, which is of the old
--- make, hears it too, and answers; and panel 0 hears the answer. Assumes nothing.
+-- A small list of calls in a farm, so that nobody wonders whether any satisfies `Follows` and `Lawful`: the clock of panel 3 shows a wrong year,
+-- in place, and is set back to 100, by value and then in place, which leaves it; it sends 4F 4B by value, which is case 1; then a beacon, in
+-- place; and panel 0 hears the first frame, in place. Panel 1, which is of the old make, hears it too, and answers; and panel 0 hears the answer.
+-- Assumes nothing.
 use Prim.Native.Nat.{ℕ}
 use mathlib.Core.Path.{_≡_, refl}
 use mathlib.Core.Logic.{inl}
@@ -18,7 +19,7 @@ use Rattle.rules.proofs.Shams.{hold, lifted, payload-bytes, empty-bytes}
 use Rattle.slots.specs.Slots.{slotsLength, held, upFrom}
 use Rattle.panel.specs.declared.Panel.{Panel}
 use Rattle.demands.specs.Runs.{Run}
-use Rattle.demands.specs.Functions.{Ran, panel-clock-parts, panel-send, panel-beacon-parts, panel-receive-parts}
+use Rattle.demands.specs.Functions.{Ran, panel-clock-parts, panel-set-back-parts, panel-set-back, panel-send, panel-beacon-parts, panel-receive-parts}
 use Rattle.demands.specs.Lists.{FarmCall, module-call, other-call, farm, Follows}
 
 -- something lent, with this value
@@ -34,7 +35,7 @@ some = []
 
 -- panel 3 as a struct, by its time, high, marks and barrier
 abbrev panel3 : ℕ → ℕ → List ℕ → List ℕ → Panel
-panel3 time high marks barrier = record { own = 3; time = time; high = high; count = 0; marks = marks; barrier = barrier; slots = zeros }
+panel3 time high marks barrier = record { own = 3; time = time; high = high; count = 0; marks = marks; barrier = barrier; slots = zeros; floor = 0 }
 
 abbrev only3 : ℕ → List ℕ
 only3 deadline = of ((3, deadline) ∷ [])
@@ -45,16 +46,46 @@ opened = tt
 
 -- Each call: lifetimes, what is given, the answer, what is lent as the call ends, and that the promise holds of these.
 
--- panel 3's clock shows 100
+-- panel 3's clock shows a wrong year
 clocked : (run : Run) × Ran run
 unfolding opened
 clocked = (
   _,
   panel-clock-parts (
-    (some, (some, (some, (some, (some, (some, (some, tt))))))),
-    (3, (lent 0, (lent 0, (lent 0, (lent none64, (lent none64, (lent zeros, (100, (lent output, tt))))))))),
+    (some, (some, (some, (some, (some, (some, (some, (some, tt)))))))),
+    (3, (lent 0, (lent 0, (lent 0, (lent none64, (lent none64, (lent zeros, (lent 0, (4000000000, (lent output, tt)))))))))),
     record { count = 0; length = 0; number = 0 },
-    (3, (lent 100, (lent 0, (lent 0, (lent none64, (lent none64, (lent zeros, (100, (lent output, tt))))))))),
+    (3, (lent 4000000000, (lent 0, (lent 0, (lent none64, (lent none64, (lent zeros, (lent 0, (4000000000, (lent output, tt)))))))))),
+    (refl, λ refused. absurd (refused refl)),
+    refl,
+  ),
+)
+
+-- it is set back to 100
+setBackTo100 : (run : Run) × Ran run
+unfolding opened
+setBackTo100 = (
+  _,
+  panel-set-back (
+    tt,
+    (panel3 4000000000 0 none64 none64, (100, tt)),
+    record { panel = panel3 100 0 none64 none64; number = 0 },
+    (panel3 4000000000 0 none64 none64, (100, tt)),
+    (refl, λ refused. absurd (refused refl)),
+    refl,
+  ),
+)
+
+-- and once more, with a later reading: the time stays
+setBackAgain : (run : Run) × Ran run
+unfolding opened
+setBackAgain = (
+  _,
+  panel-set-back-parts (
+    (some, (some, tt)),
+    (3, (lent 100, (0, (0, (lent none64, (lent none64, (lent zeros, (0, (200, tt))))))))),
+    0,
+    (3, (lent 100, (0, (0, (lent none64, (lent none64, (lent zeros, (0, (200, tt))))))))),
     (refl, λ refused. absurd (refused refl)),
     refl,
   ),
@@ -81,10 +112,10 @@ unfolding opened
 beaconed = (
   _,
   panel-beacon-parts (
-    (some, (some, (some, (some, (some, (some, (some, (some, tt)))))))),
-    (3, (100, (lent deadline1, (lent 0, (lent (only3 deadline1), (lent (only3 deadline1), (lent zeros, (lent [], (lent output, (lent buffer, tt)))))))))),
+    (some, (some, (some, (some, (some, (some, (some, (some, (some, tt))))))))),
+    (3, (100, (lent deadline1, (lent 0, (lent (only3 deadline1), (lent (only3 deadline1), (lent zeros, (lent 0, (lent [], (lent output, (lent buffer, tt))))))))))),
     record { count = 1; length = 23; number = 0 },
-    (3, (100, (lent deadline2, (lent 0, (lent (only3 deadline2), (lent (only3 deadline2), (lent zeros, (lent [], (lent (outputWith (logged2 ∷ [])), (lent (frame2 ++ drop 23 buffer), tt)))))))))),
+    (3, (100, (lent deadline2, (lent 0, (lent (only3 deadline2), (lent (only3 deadline2), (lent zeros, (lent 0, (lent [], (lent (outputWith (logged2 ∷ [])), (lent (frame2 ++ drop 23 buffer), tt))))))))))),
     (refl, λ refused. absurd (refused refl)),
     refl,
   ),
@@ -96,10 +127,10 @@ unfolding opened
 received = (
   _,
   panel-receive-parts (
-    (some, (some, (some, (some, (some, (some, (some, tt))))))),
-    (0, (0, (lent 0, (lent 0, (lent none64, (lent none64, (lent zeros, (lent frame1, (lent output, tt))))))))),
+    (some, (some, (some, (some, (some, (some, (some, (some, tt)))))))),
+    (0, (0, (lent 0, (lent 0, (lent none64, (lent none64, (lent zeros, (lent 0, (lent frame1, (lent output, tt)))))))))),
     record { count = 1; length = 0; number = 0 },
-    (0, (0, (lent deadline1, (lent 0, (lent (only3 deadline1), (lent (only3 deadline1), (lent zeros, (lent frame1, (lent (outputWith (logged1 ∷ [])), tt))))))))),
+    (0, (0, (lent deadline1, (lent 0, (lent (only3 deadline1), (lent (only3 deadline1), (lent zeros, (lent 0, (lent frame1, (lent (outputWith (logged1 ∷ [])), tt)))))))))),
     (refl, λ refused. absurd (refused refl)),
     refl,
   ),
@@ -129,10 +160,10 @@ unfolding opened answerFrame
 answered = (
   _,
   panel-receive-parts (
-    (some, (some, (some, (some, (some, (some, (some, tt))))))),
-    (0, (0, (lent deadline1, (lent 0, (lent (only3 deadline1), (lent (only3 deadline1), (lent zeros, (lent answerFrame, (lent output, tt))))))))),
+    (some, (some, (some, (some, (some, (some, (some, (some, tt)))))))),
+    (0, (0, (lent deadline1, (lent 0, (lent (only3 deadline1), (lent (only3 deadline1), (lent zeros, (lent 0, (lent answerFrame, (lent output, tt)))))))))),
     record { count = 1; length = 0; number = 0 },
-    (0, (0, (lent deadline2, (lent 0, (lent (of ((1, deadline2) ∷ (3, deadline1) ∷ [])), (lent (of ((1, deadline2) ∷ [])), (lent zeros, (lent answerFrame, (lent (outputWith (logged (1 ∷ 0x00 ∷ 0x00 ∷ 0x1c ∷ 0x85 ∷ 0 ∷ []) ∷ [])), tt))))))))),
+    (0, (0, (lent deadline2, (lent 0, (lent (of ((1, deadline2) ∷ (3, deadline1) ∷ [])), (lent (of ((1, deadline2) ∷ [])), (lent zeros, (lent 0, (lent answerFrame, (lent (outputWith (logged (1 ∷ 0x00 ∷ 0x00 ∷ 0x1c ∷ 0x85 ∷ 0 ∷ []) ∷ [])), tt)))))))))),
     (refl, λ refused. absurd (refused refl)),
     refl,
   ),
@@ -141,20 +172,21 @@ answered = (
 pub example : List FarmCall
 example =
     module-call (answered .0) ∷ other-call oldSent ∷ other-call oldHeard ∷ module-call (received .0) ∷ module-call (beaconed .0)
-    ∷ module-call (sent .0) ∷ module-call (clocked .0) ∷ []
+    ∷ module-call (sent .0) ∷ module-call (setBackAgain .0) ∷ module-call (setBackTo100 .0) ∷ module-call (clocked .0) ∷ []
 
 exampleOpened : Unit {0}
-unfolding opened clocked sent beaconed received old1 oldHeard oldSent answerFrame answered example
+unfolding opened clocked setBackTo100 setBackAgain sent beaconed received old1 oldHeard oldSent answerFrame answered example
 exampleOpened = tt
 
 pub example-follows : Follows example
 unfolding exampleOpened
-example-follows = (refl, answered .1, (refl, (refl, (refl, received .1, (refl, beaconed .1, (refl, sent .1, (refl, clocked .1, tt)))))))
+example-follows = (refl, answered .1, (refl, (refl, (refl, received .1, (refl, beaconed .1, (refl, sent .1,
+    (refl, setBackAgain .1, (refl, setBackTo100 .1, (refl, clocked .1, tt)))))))))
 
 pub example-lawful : Lawful (farm example)
 unfolding exampleOpened
 example-lawful =
-    (inl (_, first refl, refl), (empty-bytes, (inl (_, later (first refl), refl), (inl (_, later (first refl), refl), (empty-bytes, (payload-bytes, (tt, tt)))))))
+    (inl (_, first refl, refl), (empty-bytes, (inl (_, later (first refl), refl), (inl (_, later (first refl), refl), (empty-bytes, (payload-bytes, (tt, (tt, (tt, tt)))))))))
 
 -- panel 3's log then holds its note and its beacon, and the other two logs the note and the answer
 pub example-logs : (logAt 3 (farm example) ≡ hold ∷ lifted ∷ []) × (logAt 1 (farm example) ≡ hold ∷ answer ∷ [])

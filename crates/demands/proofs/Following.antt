@@ -6,7 +6,7 @@ use Rattle.rules.specs.Results.{Promised}
 use Rattle.rules.specs.Lists.{AllPromised}
 use Rattle.parts.specs.Record.{recordOf}
 use Rattle.demands.specs.Runs.{Run, resultOf}
-use Rattle.demands.specs.Functions.{Ran, panel-send-parts, panel-beacon-parts, panel-receive-parts, panel-clock-parts, panel-send, panel-beacon, panel-receive, panel-clock}
+use Rattle.demands.specs.Functions.{Ran, panel-send-parts, panel-beacon-parts, panel-receive-parts, panel-clock-parts, panel-set-back-parts, panel-send, panel-beacon, panel-receive, panel-clock, panel-set-back}
 use Rattle.demands.specs.Lists.{FarmCall, module-call, other-call, farm, Follows}
 
 -- a call gave what it promises
@@ -19,10 +19,12 @@ ran-kept run (panel-send-parts (κs, given, answer, ended, learnt, made)) = subs
 ran-kept run (panel-beacon-parts (κs, given, answer, ended, learnt, made)) = subst Kept made (learnt .0)
 ran-kept run (panel-receive-parts (κs, given, answer, ended, learnt, made)) = subst Kept made (learnt .0)
 ran-kept run (panel-clock-parts (κs, given, answer, ended, learnt, made)) = subst Kept made (learnt .0)
+ran-kept run (panel-set-back-parts (κs, given, answer, ended, learnt, made)) = subst Kept made (learnt .0)
 ran-kept run (panel-send (κs, given, answer, ended, learnt, made)) = subst Kept made (learnt .0)
 ran-kept run (panel-beacon (κs, given, answer, ended, learnt, made)) = subst Kept made (learnt .0)
 ran-kept run (panel-receive (κs, given, answer, ended, learnt, made)) = subst Kept made (learnt .0)
 ran-kept run (panel-clock (κs, given, answer, ended, learnt, made)) = subst Kept made (learnt .0)
+ran-kept run (panel-set-back (κs, given, answer, ended, learnt, made)) = subst Kept made (learnt .0)
 
 pub follows-promised : (list : List FarmCall) → Follows list → AllPromised (farm list)
 follows-promised [] follows = tt

@@ -16,11 +16,11 @@ use Rattle.panel.proofs.panel_fresh.Reads as by-value-reads
 -- in place: the record in the lent parts as the call ends
 abbrev pub BeginsInPlace : Type 0
 BeginsInPlace =
-    (κs : Lfts 7) (given : Dens κs in-place.ps) (answer : resT in-place.r κs .Denot) (ended : AtExit (endedOf 7 in-place.ps in-place.r) κs)
+    (κs : Lfts 8) (given : Dens κs in-place.ps) (answer : resT in-place.r κs .Denot) (ended : AtExit (endedOf 8 in-place.ps in-place.r) κs)
     → in-place-reads.Learnt κs given answer ended
     → given .0 ≤ 63
-    → let (_, (own, (time, (high, (count, (marks, (barrier, (slots, _)))))))) = ended in
-    recordOf (parts (now own) (now time) (now high) (now count) (now marks) (now barrier) (now slots)) ≡ fresh (given .0)
+    → let (_, (own, (time, (high, (count, (marks, (barrier, (slots, (floor, _))))))))) = ended in
+    recordOf (parts (now own) (now time) (now high) (now count) (now marks) (now barrier) (now slots) (now floor)) ≡ fresh (given .0)
 
 -- by value: that of the struct in the answer
 abbrev pub BeginsByValue : Type 0

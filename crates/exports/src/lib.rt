@@ -21,9 +21,10 @@ pub extern "C" fn panel_fresh_parts(
     marks: &mut [u32; 64],
     barrier: &mut [u32; 64],
     slots: &mut [u8; 9888],
+    floor: &mut u32,
 ) -> u8
     ensures { λ r. ⌜ FreshInPlace number r
-        (parts (now (own .exit)) (now (time .exit)) (now (high .exit)) (now (count .exit)) (now (marks .exit)) (now (barrier .exit)) (now (slots .exit))) ⌝ }
+        (parts (now (own .exit)) (now (time .exit)) (now (high .exit)) (now (count .exit)) (now (marks .exit)) (now (barrier .exit)) (now (slots .exit)) (now (floor .exit))) ⌝ }
 {
     *time = 0;
     *high = 0;
@@ -31,6 +32,7 @@ pub extern "C" fn panel_fresh_parts(
     *marks = [0u32; 64];
     *barrier = [0u32; 64];
     *slots = [0u8; 9888];
+    *floor = 0;
     if 63 < number {
         *own = 0;
         return 11;
@@ -49,15 +51,16 @@ pub extern "C" fn panel_send_parts(
     marks: &mut [u32; 64],
     barrier: &mut [u32; 64],
     slots: &mut [u8; 9888],
+    floor: &mut u32,
     payload: &[u8],
     lifetime: u16,
     output: &mut [u8],
     buffer: &mut [u8],
 ) -> Answer
     ensures { λ r. ⌜ PromisedInPlace
-        (parts own time (now (high .entry)) (now (count .entry)) (now (marks .entry)) (now (barrier .entry)) (now (slots .entry)))
+        (parts own time (now (high .entry)) (now (count .entry)) (now (marks .entry)) (now (barrier .entry)) (now (slots .entry)) (now (floor .entry)))
         (send (now (payload .entry)) lifetime (now (output .entry)) (now (buffer .entry))) r
-        (parts own time (now (high .exit)) (now (count .exit)) (now (marks .exit)) (now (barrier .exit)) (now (slots .exit)))
+        (parts own time (now (high .exit)) (now (count .exit)) (now (marks .exit)) (now (barrier .exit)) (now (slots .exit)) (now (floor .exit)))
         (now (output .exit)) (now (buffer .exit)) ⌝ }
 {
     send_in_place(
@@ -68,6 +71,7 @@ pub extern "C" fn panel_send_parts(
         marks,
         barrier,
         slots,
+        floor,
         payload,
         lifetime,
         output,
@@ -85,16 +89,28 @@ pub extern "C" fn panel_receive_parts(
     marks: &mut [u32; 64],
     barrier: &mut [u32; 64],
     slots: &mut [u8; 9888],
+    floor: &mut u32,
     frame: &[u8],
     output: &mut [u8],
 ) -> Answer
     ensures { λ r. ⌜ PromisedInPlace
-        (parts own time (now (high .entry)) (now (count .entry)) (now (marks .entry)) (now (barrier .entry)) (now (slots .entry)))
+        (parts own time (now (high .entry)) (now (count .entry)) (now (marks .entry)) (now (barrier .entry)) (now (slots .entry)) (now (floor .entry)))
         (receive (now (frame .entry)) (now (output .entry))) r
-        (parts own time (now (high .exit)) (now (count .exit)) (now (marks .exit)) (now (barrier .exit)) (now (slots .exit)))
+        (parts own time (now (high .exit)) (now (count .exit)) (now (marks .exit)) (now (barrier .exit)) (now (slots .exit)) (now (floor .exit)))
         (now (output .exit)) [] ⌝ }
 {
-    receive_in_place(own, time, high, count, marks, barrier, slots, frame, output)
+    receive_in_place(
+        own,
+        time,
+        high,
+        count,
+        marks,
+        barrier,
+        slots,
+        floor,
+        frame,
+        output,
+    )
 }
 
 // The clock shows a time: the log records stand in the output.
@@ -107,13 +123,14 @@ pub extern "C" fn panel_clock_parts(
     marks: &mut [u32; 64],
     barrier: &mut [u32; 64],
     slots: &mut [u8; 9888],
+    floor: &mut u32,
     reading: u32,
     output: &mut [u8],
 ) -> Answer
     ensures { λ r. ⌜ PromisedInPlace
-        (parts own (now (time .entry)) (now (high .entry)) (now (count .entry)) (now (marks .entry)) (now (barrier .entry)) (now (slots .entry)))
+        (parts own (now (time .entry)) (now (high .entry)) (now (count .entry)) (now (marks .entry)) (now (barrier .entry)) (now (slots .entry)) (now (floor .entry)))
         (clock reading (now (output .entry))) r
-        (parts own (now (time .exit)) (now (high .exit)) (now (count .exit)) (now (marks .exit)) (now (barrier .exit)) (now (slots .exit)))
+        (parts own (now (time .exit)) (now (high .exit)) (now (count .exit)) (now (marks .exit)) (now (barrier .exit)) (now (slots .exit)) (now (floor .exit)))
         (now (output .exit)) [] ⌝ }
 {
     clock_in_place(
@@ -124,6 +141,7 @@ pub extern "C" fn panel_clock_parts(
         marks,
         barrier,
         slots,
+        floor,
         reading,
         output,
     )

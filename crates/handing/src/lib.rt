@@ -1,19 +1,19 @@
-// Handing: barrier entries that are at most the message's for the same panel are removed; its log record
-// goes behind those before it, and high, its source's mark and barrier entry become at least its
-// deadline. An internal crate.
+// Handing: barrier entries that are at most the message's for the same panel are removed, and the floor
+// rises to the largest entry that was missed; the log record goes behind those before it, and high, the
+// source's mark and barrier entry become at least the deadline. An internal crate.
 // Preconditions: readable frames, and room in the output; the calls of a panel refuse anything else.
 use numbers::number_at;
 use numbers::put_bytes;
 use numbers::put_number;
-use shortening::shorten;
+use passing::pass_entries;
 use slots::deadline;
 use slots::source;
 ghost use mathlib.Core.Path.{_≡_};
 ghost use Prim.Native.Nat.{_+_, _*_, _≤_, max};
-ghost use lib.ListN.{length, replicate};
+ghost use lib.ListN.{length, getD, replicate};
 ghost use Rattle.numbers.specs.Buffer.{over};
 ghost use Rattle.frame.specs.Reading.{messageIn};
-ghost use Rattle.rules.specs.Handing.{raise, shortened, logRecord};
+ghost use Rattle.rules.specs.Handing.{raise, shortened, missed, logRecord};
 ghost use Rattle.slots.specs.Slots.{Reads};
 
 // Puts zeros from a place on.
@@ -55,7 +55,7 @@ fn larger(a: u32, b: u32) -> u32
 // Puts the message of a readable frame into the log, raises its source's mark and barrier entry to at
 // least its deadline, and answers the record's new high. Its log record stands behind those of the
 // messages handed before it.
-pub fn put_in_log(
+fn put_in_log(
     high: u32,
     handed: usize,
     marks: &mut [u32; 64],
@@ -78,23 +78,35 @@ pub fn put_in_log(
     larger(high, deadline)
 }
 
-// Hands the message of a readable frame, and answers the record's new high: the barrier is shortened,
-// and then the message put into the log. (A send's own message finds an empty barrier, and is only put
-// into the log.)
+// The record's high and floor, once a message was handed.
+pub struct Handed {
+    pub high: u32,
+    pub floor: u32,
+}
+
+// Hands the message of a readable frame: its entries are passed, beside the marks and the barrier as
+// they are, and then it is put into the log.
 pub fn hand(
+    time: u32,
     high: u32,
+    floor: u32,
     handed: usize,
     marks: &mut [u32; 64],
     barrier: &mut [u32; 64],
     frame: &[u8],
     output: &mut [u8],
-) -> u32
+) -> Handed
     requires { ⌜ Reads (now frame) × (handed * 38 + 38 ≤ length (now output)) ⌝ }
-    ensures { λ r. ⌜ (r ≡ max high (messageIn 4 (now (frame .entry)) .deadline))
+    ensures { λ r. ⌜ (r .high ≡ max high (messageIn 4 (now (frame .entry)) .deadline))
         × (now (marks .exit) ≡ raise (now (marks .entry)) (messageIn 4 (now (frame .entry))))
         × (now (barrier .exit) ≡ raise (shortened (now (barrier .entry)) (messageIn 4 (now (frame .entry)) .entries)) (messageIn 4 (now (frame .entry))))
-        × (now (output .exit) ≡ over (now (output .entry)) (handed * 38) (logRecord (messageIn 4 (now (frame .entry))))) ⌝ }
+        × (now (output .exit) ≡ over (now (output .entry)) (handed * 38) (logRecord (messageIn 4 (now (frame .entry)))))
+        × (r .floor ≡ max floor (missed time floor (λ panel. getD (now (marks .entry)) panel 0) (messageIn 4 (now (frame .entry)) .entries))) ⌝ }
 {
-    shorten(barrier, frame);
-    put_in_log(high, handed, marks, barrier, frame, output)
+    let risen = pass_entries(time, floor, marks, barrier, frame);
+    let raised = put_in_log(high, handed, marks, barrier, frame, output);
+    Handed {
+        high: raised,
+        floor: risen,
+    }
 }

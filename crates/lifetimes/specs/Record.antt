@@ -5,4 +5,4 @@ use Rattle.rules.specs.Panel.{newMake, Panel}
 
 -- one with this time and high: nothing else of it counts
 abbrev pub recordWith : ℕ → ℕ → Panel
-recordWith time high = record { own = 0; time = time; high = high; marks = []; barrier = []; waiting = []; make = newMake }
+recordWith time high = record { own = 0; time = time; high = high; marks = []; barrier = []; waiting = []; floor = 0; make = newMake }

@@ -16,6 +16,7 @@ panelOf p =
       marks = p .marks;
       barrier = p .barrier;
       slots = p .slots;
+      floor = p .floor;
     }
 
 -- parts left as they were make the struct that was given

@@ -8,7 +8,7 @@ use Rattle.panel.specs.declared.Panel.{Panel}
 
 -- the parts of the struct, and the record that it holds
 abbrev pub partsOf : Panel → Parts
-partsOf p = parts (p .own) (p .time) (p .high) (p .count) (p .marks) (p .barrier) (p .slots)
+partsOf p = parts (p .own) (p .time) (p .high) (p .count) (p .marks) (p .barrier) (p .slots) (p .floor)
 
 abbrev pub recordOf : Panel → Record
 recordOf p = recordIn (partsOf p)

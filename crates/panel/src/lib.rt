@@ -19,6 +19,7 @@ pub struct Panel {
     pub marks: [u32; 64],
     pub barrier: [u32; 64],
     pub slots: [u8; 9888],
+    pub floor: u32,
 }
 
 // number is 0, or 11.
@@ -39,6 +40,7 @@ pub fn panel_fresh(number: u8) -> Fresh
     let mut marks = [0u32; 64];
     let mut barrier = [0u32; 64];
     let mut slots = [0u8; 9888];
+    let mut floor = 0;
     let answer = panel_fresh_parts(
         number,
         &mut own,
@@ -48,6 +50,7 @@ pub fn panel_fresh(number: u8) -> Fresh
         &mut marks,
         &mut barrier,
         &mut slots,
+        &mut floor,
     );
     let panel = Panel {
         own,
@@ -57,6 +60,7 @@ pub fn panel_fresh(number: u8) -> Fresh
         marks,
         barrier,
         slots,
+        floor,
     };
     Fresh {
         panel,

@@ -19,6 +19,7 @@ pub fn panel_trace(p: Panel, frame: &[u8]) -> Trace
         &p.marks,
         &p.barrier,
         &p.slots,
+        p.floor,
         frame,
     )
 }

@@ -59,7 +59,7 @@ settles-slots slots begun s places marks barrier output after settles long gathe
     let held-now = held-gathered slots places (s .waiting) after (omega (arith, settles .listed .few, settles .long)) gathered in
     record {
       panel =
-          ap₂ (λ (o t : ℕ). recordOf (parts o t (s .high) (s .waiting) marks barrier after)) (sym own) (sym time)
+          ap₂ (λ (o t : ℕ). recordOf (parts o t (s .high) (s .waiting) marks barrier after (s .floor))) (sym own) (sym time)
           ∙ ap (withWaiting (panelAt slots (stage s places marks barrier output))) held-now
           ∙ settles .panel;
       logged = record { output = settles .logged .output; handed = settles .logged .handed };

@@ -11,8 +11,8 @@ use Rattle.parts.specs.declared.Answer.{Answer}
 
 -- ---- the record
 
--- The parts of a record, in the order in which every call has them: four numbers, marks, barrier, and the slots, whose first `count` hold the
--- waiting messages.
+-- The parts of a record, in the order in which every call has them: four numbers, marks, barrier, the slots, whose first `count` hold the
+-- waiting messages, and the floor.
 pub record Parts : Type 0 where
   pub own : ℕ
   pub time : ℕ
@@ -21,10 +21,11 @@ pub record Parts : Type 0 where
   pub marks : List ℕ
   pub barrier : List ℕ
   pub slots : List ℕ
+  pub floor : ℕ
 
-abbrev pub parts : ℕ → ℕ → ℕ → ℕ → List ℕ → List ℕ → List ℕ → Parts
-parts own time high count marks barrier slots =
-    record { own = own; time = time; high = high; count = count; marks = marks; barrier = barrier; slots = slots }
+abbrev pub parts : ℕ → ℕ → ℕ → ℕ → List ℕ → List ℕ → List ℕ → ℕ → Parts
+parts own time high count marks barrier slots floor =
+    record { own = own; time = time; high = high; count = count; marks = marks; barrier = barrier; slots = slots; floor = floor }
 
 -- the record that the parts hold: the module's panels are of the new make
 abbrev pub recordOf : Parts → Record
@@ -36,6 +37,7 @@ recordOf p =
       marks = p .marks;
       barrier = p .barrier;
       waiting = held (p .slots) (firstSlots (p .count));
+      floor = p .floor;
       make = newMake;
     }
 
@@ -56,6 +58,6 @@ PromisedInPlace before call answer after output buffer =
 
 -- the record has settled, and what still waits lies in the first slots
 pub record SettlesSlots (slots : List ℕ) (before : Stage) (slots′ : List ℕ) (after : Stage) : Type 0 where
-  pub panel : recordOf (parts (before .left .own) (before .left .time) (after .left .high) (after .left .waiting) (after .marks) (after .barrier) slots′)
+  pub panel : recordOf (parts (before .left .own) (before .left .time) (after .left .high) (after .left .waiting) (after .marks) (after .barrier) slots′ (after .left .floor))
       ≡ settle (panelAt slots before) .panel
   pub logged : Logged (settle (panelAt slots before) .handed) before after

@@ -1,11 +1,11 @@
 // What the calls share: the record in the parts that it is lent in, their answer, refusal 26, and
 // settling the slots. `broken` reads the record and changes nothing; `settle_slots` changes high,
-// marks, barrier, slots and output. An internal crate. Preconditions: slots, places and room, which the
+// marks, barrier, slots, floor and output. An internal crate. Preconditions: slots, places and room, which the
 // calls have.
 //
 // A record is lent in its parts, and not as a struct, since the prover walks no function with a
 // reference to a struct. So the calls have long lists of parameters, always in the order of the
-// record: own, time, high, count, marks, barrier, slots. A part that a call never changes is given
+// record: own, time, high, count, marks, barrier, slots, floor. A part that a call never changes is given
 // by value, if it is a number.
 use settling::settle;
 use slot_check::all_read;
@@ -58,7 +58,7 @@ pub fn broken<'a>(
     slots: &'a [u8],
 ) -> bool
     requires { ⌜ (length (now marks) ≡ 64) × (length (now barrier) ≡ 64) × Slots (now slots) ⌝ }
-    ensures { λ r. ⌜ r ≡ isBroken (recordOf (parts own 0 high count (now (marks .entry)) (now (barrier .entry)) (now (slots .entry)))) ⌝ }
+    ensures { λ r. ⌜ r ≡ isBroken (recordOf (parts own 0 high count (now (marks .entry)) (now (barrier .entry)) (now (slots .entry)) 0)) ⌝ }
 {
     if 63 < own {
         return true;
@@ -87,6 +87,7 @@ pub fn settle_slots(
     high: &mut u32,
     waiting: usize,
     handed: &mut usize,
+    floor: &mut u32,
     places: [u8; 32],
     marks: &mut [u32; 64],
     barrier: &mut [u32; 64],
@@ -96,9 +97,9 @@ pub fn settle_slots(
     requires { ⌜ Slots (now slots) × Listed (now slots) waiting places ⌝ }
     requires { ⌜ (now handed + waiting) * 38 ≤ length (now output) ⌝ }
     ensures { λ r. ⌜ SettlesSlots (now (slots .entry))
-        (stage (left own time (now (high .entry)) waiting (now (handed .entry))) places (now (marks .entry)) (now (barrier .entry)) (now (output .entry)))
+        (stage (left own time (now (high .entry)) waiting (now (handed .entry)) (now (floor .entry))) places (now (marks .entry)) (now (barrier .entry)) (now (output .entry)))
         (now (slots .exit))
-        (stage (left own time (now (high .exit)) r (now (handed .exit))) (firstSlots 32) (now (marks .exit)) (now (barrier .exit)) (now (output .exit))) ⌝ }
+        (stage (left own time (now (high .exit)) r (now (handed .exit)) (now (floor .exit))) (firstSlots 32) (now (marks .exit)) (now (barrier .exit)) (now (output .exit))) ⌝ }
 {
     let mut places = places;
     let still = settle(
@@ -107,6 +108,7 @@ pub fn settle_slots(
         high,
         waiting,
         handed,
+        floor,
         &mut places,
         marks,
         barrier,

@@ -33,7 +33,7 @@ use Rattle.parts.proofs.Answering.{afterwards, settled-promised}
 -- the record as it begins, with what is lent beside the slots: all of the first slots are listed, nothing was handed
 abbrev pub begunStage : Parts → List ℕ → Stage
 begunStage p output =
-    stage (record { own = p .own; time = p .time; high = p .high; waiting = p .count; handed = 0 }) (firstSlots 32) (p .marks) (p .barrier) output
+    stage (record { own = p .own; time = p .time; high = p .high; waiting = p .count; handed = 0; floor = p .floor }) (firstSlots 32) (p .marks) (p .barrier) output
 
 panel-started : (p : Parts) (output : List ℕ) → Kept (p .slots) (p .count) → panelAt (p .slots) (begunStage p output) ≡ recordOf p
 panel-started p output kept = ap (λ (ms : List Message). withWaiting (recordOf p) ms) (held-order (p .slots) (p .count) (kept .few))
@@ -77,7 +77,7 @@ length-atOnce p bytes reads = go (ready p (messageIn width bytes))
 
 -- 32 are not waiting, or the message is ready
 pub room : (p : Parts) (bytes output : List ℕ) → firstOf (receiveChecks (recordOf p) bytes output) ≡ 0
-    → (p .count < 32) ⊎ (ready (asking (p .marks) (p .time)) (messageIn width bytes) ≡ true)
+    → (p .count < 32) ⊎ (ready (asking (p .marks) (p .time) (p .floor)) (messageIn width bytes) ≡ true)
 room p bytes output passed =
     ⊎-elim (λ (l : length (held (p .slots) (firstSlots (p .count))) < 32). inl (omega (arith, length-firstSlots (p .slots) (p .count))))
     (λ r. inr (ready-asking (recordOf p) (messageIn width bytes) ∙ r)) (receive-passed (recordOf p) bytes output passed .room)
@@ -87,7 +87,7 @@ module _ (p : Parts) (bytes output : List ℕ) (kept : Kept (p .slots) (p .count
     (slots″ : List ℕ) (after : Stage) (settles : SettlesSlots slots′ begun slots″ after) where
   -- the record left has the own number and the time that it came with
   abbrev pub leftBehind : Record
-  leftBehind = recordOf (parts (p .own) (p .time) (after .left .high) (after .left .waiting) (after .marks) (after .barrier) slots″)
+  leftBehind = recordOf (parts (p .own) (p .time) (after .left .high) (after .left .waiting) (after .marks) (after .barrier) slots″ (after .left .floor))
 
   left-settled : leftBehind ≡ settle (panelAt slots′ begun) .panel
   left-settled = rw (← taken-own taken, ← taken-time taken) (settles .panel)

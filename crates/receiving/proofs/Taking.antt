@@ -6,7 +6,7 @@ use mathlib.Core.Path.{_≡_, refl, sym, ap, _∙_}
 use mathlib.Core.Logic.{_⊎_, ⊎-elim}
 use mathlib.Core.Bool.{true, false, true≢false}
 use mathlib.Core.List.{List, [], _∷_, _++_, append-nil}
-use lib.ListN.{length, take}
+use lib.ListN.{length, getD, take}
 use Rattle.numbers.specs.Numbers.{bigEndian}
 use Rattle.numbers.specs.Buffer.{over}
 use Rattle.frame.specs.Message.{Message}
@@ -14,7 +14,7 @@ use Rattle.frame.specs.Reading.{maskIn, messageIn}
 use Rattle.frame.proofs.Passed.{zero-passed}
 use Rattle.rules.specs.Sizes.{width, bufferLength}
 use Rattle.rules.specs.Panel.{Panel, ready}
-use Rattle.rules.specs.Handing.{raise, shortened, barrierFor, hand, logRecord, logRecords}
+use Rattle.rules.specs.Handing.{raise, shortened, barrierFor, missed, hand, logRecord, logRecords}
 use Rattle.rules.specs.Settling.{withWaiting}
 use Rattle.slots.specs.Slots.{slotLength, Reads, Slots, Kept, held, firstSlots}
 use Rattle.slots.proofs.Held.{carried-reads}
@@ -64,14 +64,18 @@ module _ (s : Settling) (marks barrier slots output frame : List ℕ) (reads : R
   abbrev m : Message
   m = messageIn width frame
 
-  -- handed, one more was, and high is this
-  abbrev oneMore : ℕ → Settling
-  oneMore high = record { own = s .own; time = s .time; high = high; waiting = s .waiting; handed = s .handed + 1 }
+  -- handed, one more was, and high and floor are these
+  abbrev oneMore : ℕ → ℕ → Settling
+  oneMore high floor = record { own = s .own; time = s .time; high = high; waiting = s .waiting; handed = s .handed + 1; floor = floor }
+
+  -- the floor, risen by the entries of the message
+  abbrev risen : ℕ
+  risen = max (s .floor) (missed (s .time) (s .floor) (λ panel. getD marks panel 0) (m .entries))
 
   -- ready, it is handed
-  handed-now : ready (asking marks (s .time)) m ≡ true
+  handed-now : ready (asking marks (s .time) (s .floor)) m ≡ true
       → Taken m slots before slots
-      (stage (oneMore (max (s .high) (m .deadline))) (firstSlots 32) (raise marks m) (raise (shortened barrier (m .entries)) m)
+      (stage (oneMore (max (s .high) (m .deadline)) risen) (firstSlots 32) (raise marks m) (raise (shortened barrier (m .entries)) m)
       (over output (outputPlace s) (logRecord m)))
   unfolding hand barrierFor logRecords
   handed-now e =
@@ -92,16 +96,16 @@ module _ (s : Settling) (marks barrier slots output frame : List ℕ) (reads : R
         size = size;
       }
 
-  pub taken-handed : ready (asking marks (s .time)) m ≡ true → (high : ℕ) (marksAfter barrierAfter outputAfter : List ℕ)
+  pub taken-handed : ready (asking marks (s .time) (s .floor)) m ≡ true → (high floor : ℕ) (marksAfter barrierAfter outputAfter : List ℕ)
       → high ≡ max (s .high) (m .deadline) → marksAfter ≡ raise marks m → barrierAfter ≡ raise (shortened barrier (m .entries)) m
-      → outputAfter ≡ over output (outputPlace s) (logRecord m)
-      → Taken m slots before slots (stage (oneMore high) (firstSlots 32) marksAfter barrierAfter outputAfter)
-  taken-handed ready high marksAfter barrierAfter outputAfter e em eb eo = rw (e, em, eb, eo) (handed-now ready)
+      → outputAfter ≡ over output (outputPlace s) (logRecord m) → floor ≡ risen
+      → Taken m slots before slots (stage (oneMore high floor) (firstSlots 32) marksAfter barrierAfter outputAfter)
+  taken-handed ready high floor marksAfter barrierAfter outputAfter e em eb eo ef = rw (e, em, eb, eo, ef) (handed-now ready)
 
   -- not ready, it is put behind the others
-  module _ (unready : ready (asking marks (s .time)) m ≡ false) (few : s .waiting < 32) where
+  module _ (unready : ready (asking marks (s .time) (s .floor)) m ≡ false) (few : s .waiting < 32) where
     abbrev after : Settling
-    after = record { own = s .own; time = s .time; high = s .high; waiting = s .waiting + 1; handed = s .handed }
+    after = record { own = s .own; time = s .time; high = s .high; waiting = s .waiting + 1; handed = s .handed; floor = s .floor }
 
     abbrev put : List ℕ
     put = over slots (s .waiting * slotLength) (bigEndian 2 (length frame) ++ frame)

@@ -1,5 +1,5 @@
-// Receive, in place on a lent record. Of the record it may touch high, count, marks, barrier and
-// slots, and beside it the output; own number and time it only reads. It accepts any input, and what it
+// Receive, in place on a lent record. Of the record it may touch high, count, marks, barrier,
+// slots and floor, and beside it the output; own number and time it only reads. It accepts any input, and what it
 // promises is document 01's receive, for every argument. An internal crate: `exports` and `by_value`
 // have the public calls.
 use checking::receive_number;
@@ -36,18 +36,33 @@ fn take(
     output: &mut [u8],
 ) -> Settling
     requires { ⌜ Reads (now frame) × Slots (now slots) × Kept (now slots) (s .waiting) ⌝ }
-    requires { ⌜ (s .waiting < 32) ⊎ (isReady (asking (now marks) (s .time)) (messageIn 4 (now frame)) ≡ true) ⌝ }
+    requires { ⌜ (s .waiting < 32) ⊎ (isReady (asking (now marks) (s .time) (s .floor)) (messageIn 4 (now frame)) ≡ true) ⌝ }
     requires { ⌜ s .handed * 38 + 38 ≤ length (now output) ⌝ }
     ensures { λ r. ⌜ Taken (messageIn 4 (now (frame .entry)))
         (now (slots .entry)) (stage s (firstSlots 32) (now (marks .entry)) (now (barrier .entry)) (now (output .entry)))
         (now (slots .exit)) (stage r (firstSlots 32) (now (marks .exit)) (now (barrier .exit)) (now (output .exit))) ⌝ }
 {
-    let tested = ready(frame, marks, s.time);
+    let tested = ready(frame, marks, s.time, s.floor);
     if tested.ready {
-        let mut rest = s;
-        rest.high = hand(s.high, s.handed, marks, barrier, frame, output);
-        rest.handed += 1;
-        return rest;
+        let raised = hand(
+            s.time,
+            s.high,
+            s.floor,
+            s.handed,
+            marks,
+            barrier,
+            frame,
+            output,
+        );
+        let count = s.handed + 1;
+        return Settling {
+            own: s.own,
+            time: s.time,
+            high: raised.high,
+            waiting: s.waiting,
+            handed: count,
+            floor: raised.floor,
+        };
     }
     put_frame(slots, s.waiting, frame);
     let mut rest = s;
@@ -64,13 +79,14 @@ pub fn receive_in_place(
     marks: &mut [u32; 64],
     barrier: &mut [u32; 64],
     slots: &mut [u8; 9888],
+    floor: &mut u32,
     frame: &[u8],
     output: &mut [u8],
 ) -> Answer
     ensures { λ r. ⌜ PromisedInPlace
-        (parts own time (now (high .entry)) (now (count .entry)) (now (marks .entry)) (now (barrier .entry)) (now (slots .entry)))
+        (parts own time (now (high .entry)) (now (count .entry)) (now (marks .entry)) (now (barrier .entry)) (now (slots .entry)) (now (floor .entry)))
         (receive (now (frame .entry)) (now (output .entry))) r
-        (parts own time (now (high .exit)) (now (count .exit)) (now (marks .exit)) (now (barrier .exit)) (now (slots .exit)))
+        (parts own time (now (high .exit)) (now (count .exit)) (now (marks .exit)) (now (barrier .exit)) (now (slots .exit)) (now (floor .exit)))
         (now (output .exit)) [] ⌝ }
 {
     let number = receive_number(
@@ -81,6 +97,7 @@ pub fn receive_in_place(
         marks,
         barrier,
         slots,
+        *floor,
         frame,
         output,
     );
@@ -97,10 +114,12 @@ pub fn receive_in_place(
         high: *high,
         waiting: *count,
         handed: 0,
+        floor: *floor,
     };
     let left = take(begun, marks, barrier, slots, frame, output);
     let places = in_order();
     *high = left.high;
+    *floor = left.floor;
     let mut handed = left.handed;
     *count = settle_slots(
         left.own,
@@ -108,6 +127,7 @@ pub fn receive_in_place(
         high,
         left.waiting,
         &mut handed,
+        floor,
         places,
         marks,
         barrier,

@@ -20,7 +20,7 @@ use Rattle.frame.proofs.Readable.{Readable, true-readable, readable-true}
 use Rattle.rules.specs.Sizes.{width, lastDeadline, outputLength, bufferLength}
 use Rattle.rules.specs.Panel.{nameOf, Panel, ready}
 use Rattle.rules.specs.Calls.{sendDeadline, newMessage}
-use Rattle.rules.specs.Refusals.{someAbove, eachReadable, broken, isWaiting, farthestAhead, tooFarAhead, sendChecks, messageChecks, receiveChecks, clockChecks}
+use Rattle.rules.specs.Refusals.{someAbove, eachReadable, broken, isWaiting, farthestAhead, tooFarAhead, sendChecks, messageChecks, receiveChecks, clockChecks, setBackChecks}
 use Rattle.rules.specs.Lists.{_isIn_}
 use Rattle.rules.proofs.Booleans.{and-either, or-neither, not-false}
 use Rattle.rules.proofs.Ready.{limit, lapsed-false}
@@ -167,3 +167,9 @@ clock-passed p time output e =
       output-room = ltb-false (length output) outputLength (none 1);
       later = ltb-false time (p .time) (none 2);
     }
+
+-- ---- set back
+
+pub setBack-passed : (p : Panel) → firstOf (setBackChecks p) ≡ 0 → Valid p
+unfolding setBackChecks eachNumber
+setBack-passed p e = broken-false p (applies-none (setBackChecks p) refl e 0)

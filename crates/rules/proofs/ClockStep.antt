@@ -1,25 +1,28 @@
 -- A clock call keeps what holds of a list. Assumes nothing.
-use Prim.Native.Nat.{ℕ}
+use Prim.Native.Nat.{ℕ, _≤_}
 use native.Mathlib.Omega.{arith}
 use mathlib.Core.Path.{_≡_, refl, ap, _∙_, subst⁻¹}
 use mathlib.Core.Logic.{_⊎_, inl, inr, ⊎-elim}
+use mathlib.Core.Bool.{false}
 use mathlib.Core.List.{List, [], _∷_, Memᴰ·append-left}
 use Rattle.frame.specs.Refusal.{firstOf}
-use Rattle.rules.specs.Panel.{Name, Make, Panel}
+use Rattle.rules.specs.Panel.{Name, Make, Panel, hasLapsed, lapsed}
 use Rattle.rules.specs.Settling.{settle}
 use Rattle.rules.specs.Calls.{withTime, alive, dropLapsed, clocking}
 use Rattle.rules.specs.Refusals.{clockChecks}
 use Rattle.rules.specs.Results.{clock, done, defined}
 use Rattle.rules.specs.Lists.{_isIn_, Made, givenTo, framesSent, framesTaken, timeAfter, logAt, sends}
-use Rattle.rules.proofs.Ready.{limit, limit-time, dead, dead-withTime}
+use Rattle.rules.specs.Lapsing.{notDropped, stillTaken}
+use Rattle.rules.proofs.Ready.{limit, lapsed-false, dead, dead-withTime}
 use Rattle.rules.proofs.WaitingList.{isIn-alive, alive-isIn, Distinct-alive, length-alive}
 use Rattle.rules.proofs.Handed.{clocking-readable}
 use Rattle.rules.proofs.Checks.{ClockPassed, clock-passed}
 use Rattle.rules.proofs.Settling.{settle-settles}
 use Rattle.rules.proofs.Sound.{LogSound, WaitingSound}
+use Rattle.rules.proofs.Floor.{isIn-notDropped}
 use Rattle.rules.proofs.Keeping.{Keeps, sound-withWaiting, settle-keeps}
 use Rattle.rules.proofs.Sites.{Site, siteAt, siteFor, siteAfter, Placed, SiteSound, of-make}
-use Rattle.rules.proofs.Steps.{ListSound, made, quiet-step, unless-step, siteDone, siteAfter-done, placed-after}
+use Rattle.rules.proofs.Steps.{ListSound, made, quiet-step, unless-step, siteDone, siteAfter-done, placed-after, floor-after}
 
 module _ (earlier : List Made) (L : ListSound earlier) (i : ℕ) (make : Make) (time : ℕ) (output : List ℕ) where
   abbrev site : Site
@@ -45,7 +48,7 @@ module _ (earlier : List Made) (L : ListSound earlier) (i : ℕ) (make : Make) (
         let G = given-sound .sound .log-sound in
         record {
           known = G .known;
-          whole = λ x y k b. ⊎-elim (λ a. inl a) (λ d. inr (omega (arith, d, dead-withTime p time (P .later)))) (G .whole x y k b);
+          whole = λ x y k b. ⊎-elim (λ a. inl a) (λ d. inr (omega (arith, d, dead-withTime p time))) (G .whole x y k b);
           once = G .once;
           order = G .order;
         }
@@ -63,17 +66,32 @@ module _ (earlier : List Made) (L : ListSound earlier) (i : ℕ) (make : Make) (
     keeps : Keeps (sends earlier) log q (settle q)
     keeps =
         settle-keeps (L .sends-sound) q log
-        (sound-withWaiting (withTime p time) (alive (withTime p time) (p .waiting)) time-sound (given-sound .sound .summary) alive-sound)
+        (sound-withWaiting (withTime p time) (alive (withTime p time) (p .waiting)) time-sound (given-sound .sound .summary)
+        (given-sound .sound .missing) alive-sound)
 
-    placed-later : (n : Name) → Placed log (p .waiting) (site .time) n → Placed log (q .waiting) time n
-    placed-later n (inl k) = inl k
-    placed-later n (inr (inl (w, k, e))) =
-        ⊎-elim (λ a. inr (inl (w, a, e)))
-        (λ lt. inr (inr (omega (arith, lt, limit-time (withTime p time), ap (λ (a : Name). a .deadline) e))))
-        (alive-isIn (withTime p time) (p .waiting) w k)
-    placed-later n (inr (inr lapsed)) = inr (inr (omega (arith, given-sound .time, P .later)))
+    abbrev stays : List Name
+    stays = notDropped log time (site .floor) (site .taken)
 
-    clocking-sound : SiteSound (sends earlier) i (siteDone site (clocking p time) (site .sent) (site .taken) time)
+    -- what is not dropped has its place
+    taken-later : (n : Name) → n isIn stays → Placed log (q .waiting) n
+    unfolding lapsed
+    taken-later n k = let (t, kept) = isIn-notDropped log time (site .floor) (site .taken) n k in go (given-sound .taken n t) kept
+      where
+        go : Placed log (p .waiting) n → (n isIn log) ⊎ (hasLapsed time (site .floor) (n .deadline) ≡ false) → Placed log (q .waiting) n
+        go (inl a) kept = inl a
+        go (inr place) (inl a) = inl a
+        go (inr (w, j, e)) (inr live) =
+            ⊎-elim (λ a. inr (w, a, e))
+            (λ lt. absurd (omega (arith, lt, ap (λ (a : Name). a .deadline) e, above)))
+            (alive-isIn (withTime p time) (p .waiting) w j)
+          where
+            above : limit (withTime p time) ≤ n .deadline
+            above = lapsed-false (withTime p time) (n .deadline) (ap (λ f. hasLapsed time f (n .deadline)) (given-sound .floor) ∙ live)
+
+    abbrev site′ : Site
+    site′ = siteDone (sends earlier) site (clocking p time) (site .sent) stays time
+
+    clocking-sound : SiteSound (sends earlier) i site′
     unfolding clocking
     clocking-sound =
         let G = given-sound in
@@ -81,16 +99,18 @@ module _ (earlier : List Made) (L : ListSound earlier) (i : ℕ) (make : Make) (
         record {
           own = T .own ∙ G .own;
           time = T .time;
+          floor = floor-after keeps refl (G .floor);
           sound = keeps .sound;
           few = omega (arith, T .count, length-alive (withTime p time) (p .waiting), G .few);
           settled = T .settled;
-          placed = λ n k. placed-after keeps n (placed-later n (G .placed n k));
+          sent = λ n k. Memᴰ·append-left _ (G .sent n k);
+          taken = λ n k. placed-after keeps n (taken-later n k);
           mine = λ s k e. Memᴰ·append-left _ (G .mine s k e);
         }
 
-    site-done : siteAfter site (clock time output) (done (clocking p time) output [] []) ≡ siteDone site (clocking p time) (site .sent) (site .taken) time
-    unfolding framesSent framesTaken timeAfter done
-    site-done = siteAfter-done site (clock time output) (clocking p time) output [] [] (clocking-readable p time (P .valid .waiting))
+    site-done : siteAfter (sends earlier) site (clock time output) (done (clocking p time) output [] []) ≡ site′
+    unfolding framesSent framesTaken stillTaken timeAfter done
+    site-done = siteAfter-done (sends earlier) site (clock time output) (clocking p time) output [] [] (clocking-readable p time (P .valid .waiting))
 
     done-sound : ListSound (made i make (clock time output) (done (clocking p time) output [] []) ∷ earlier)
     unfolding framesSent

@@ -20,13 +20,13 @@ use Rattle.rules.specs.Sizes.{width, lastDeadline, outputLength}
 use Rattle.rules.specs.Panel.{Name, Panel, lapsed, ready}
 use Rattle.rules.specs.Handing.{hand}
 use Rattle.rules.specs.Settling.{Settled, withWaiting, settle}
-use Rattle.rules.specs.Calls.{handAndSettle, newMessage, emptied, sending, receiving, withTime, dropLapsed, clocking}
-use Rattle.rules.specs.Refusals.{broken, farthestAhead, tooFarAhead, sendChecks, messageChecks, receiveChecks, clockChecks}
-use Rattle.rules.specs.Results.{Call, send, receive, clock, effectOf, refused, done, defined}
+use Rattle.rules.specs.Calls.{handAndSettle, newMessage, emptied, sending, receiving, withTime, dropLapsed, clocking, settingBack}
+use Rattle.rules.specs.Refusals.{broken, farthestAhead, tooFarAhead, sendChecks, messageChecks, receiveChecks, clockChecks, setBackChecks}
+use Rattle.rules.specs.Results.{Call, send, receive, clock, setBack, effectOf, refused, done, defined}
 use Rattle.rules.specs.Lists.{_isIn_, Made, recordAt, sends, Before, Lawful, AllPromised}
 use Rattle.rules.specs.FarAhead.{FarAhead}
 use Rattle.rules.proofs.Booleans.{not-true, cond-both}
-use Rattle.rules.proofs.Ready.{limit-time, limit-lapsed}
+use Rattle.rules.proofs.Ready.{limit-withWaiting, limit-lapsed}
 use Rattle.rules.proofs.Raise.{raise-le}
 use Rattle.rules.proofs.WaitingList.{alive-isIn}
 use Rattle.rules.proofs.Settling.{settle-settles}
@@ -51,6 +51,10 @@ module _ (p : Panel) where
   clock-never : (time : ℕ) (output : List ℕ) → defined p (clock time output) .number ≢ 32
   unfolding eachNumber clockChecks
   clock-never time output = rw (defined-number p (clock time output)) (without-32 (clockChecks p time output) refl)
+
+  set-back-never : (reading : ℕ) → defined p (setBack reading) .number ≢ 32
+  unfolding eachNumber setBackChecks
+  set-back-never reading = rw (defined-number p (setBack reading)) (without-32 (setBackChecks p) refl)
 
 -- of the checks of a message, that of 32 alone answers it
 row-32 : (own lapsed far had full : Bool) → firstOf ((own, 20) ∷ (lapsed, 21) ∷ (far, 32) ∷ (had, 22) ∷ (full, 23) ∷ []) ≡ 32 → far ≡ true
@@ -115,7 +119,7 @@ list-stays p ms all =
     record { waiting = λ w i. ⊎-elim (λ k. inl k) (λ k. inr (inl k)) (S .kept w (all w i)); marks = S .marks }
 
 effect-stays : (p : Panel) (call : Call) → Stays p (effectOf p call)
-unfolding sending receiving clocking
+unfolding sending receiving clocking settingBack
 effect-stays p (send payload lifetime output buffer) =
     let S = hand-stays (emptied p) (newMessage p payload lifetime) in record { waiting = S .waiting; marks = S .marks }
 effect-stays p (receive bytes output) =
@@ -127,10 +131,11 @@ effect-stays p (clock time output) =
     record {
       waiting = λ w i.
           ⊎-elim (λ k. ⊎-elim (λ a. inl a) (λ b. inr (inl b)) (S .kept w k))
-          (λ lt. inr (inr (limit-lapsed _ (w .deadline) (omega (arith, lt, limit-time q, limit-time (clocking p time .panel), S .time)))))
+          (λ lt. inr (inr (limit-lapsed _ (w .deadline) (omega (arith, lt, S .limit-stays, limit-withWaiting q (dropLapsed q .waiting))))))
           (alive-isIn q (p .waiting) w i);
       marks = S .marks;
     }
+effect-stays p (setBack reading) = record { waiting = λ w i. inl i; marks = λ source. omega arith }
 
 -- a refused call gives back the record as it was
 module _ (p : Panel) (call : Call) where
@@ -157,6 +162,7 @@ far-ahead p =
       never-late = never-late p;
       send-never = send-never p;
       clock-never = clock-never p;
+      set-back-never = set-back-never p;
       waiting-stays = waiting-stays p;
       marks-stay = marks-stay p;
     }

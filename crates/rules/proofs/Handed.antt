@@ -11,8 +11,8 @@ use Rattle.rules.specs.Sizes.{width}
 use Rattle.rules.specs.Panel.{Panel, ready}
 use Rattle.rules.specs.Handing.{hand}
 use Rattle.rules.specs.Settling.{Settled, withWaiting, settle}
-use Rattle.rules.specs.Calls.{handAndSettle, newMessage, emptied, sending, receiving, withTime, dropLapsed, clocking}
-use Rattle.rules.specs.Results.{Call, send, receive, clock, effectOf}
+use Rattle.rules.specs.Calls.{handAndSettle, newMessage, emptied, sending, receiving, withTime, dropLapsed, clocking, settingBack}
+use Rattle.rules.specs.Results.{Call, send, receive, clock, setBack, effectOf}
 use Rattle.rules.proofs.Booleans.{cond-both}
 use Rattle.rules.proofs.WaitingList.{isIn-end, isIn-alive, length-alive}
 use Rattle.rules.proofs.LogRecords.{EachReadable}
@@ -21,7 +21,7 @@ use Rattle.rules.proofs.Settling.{settle-settles}
 -- ---- how many
 
 pub effect-count : (p : Panel) (call : Call) → length (p .waiting) ≤ 32 → length (effectOf p call .handed) ≤ 33
-unfolding sending receiving clocking handAndSettle hand
+unfolding sending receiving clocking settingBack handAndSettle hand
 effect-count p (send payload lifetime output buffer) le =
     omega (arith, le, settle-settles (hand (emptied p) (newMessage p payload lifetime)) .count)
 effect-count p (receive bytes output) le =
@@ -31,6 +31,7 @@ effect-count p (receive bytes output) le =
     (λ _. omega (arith, le, settle-settles q .count, length-append (p .waiting) (m ∷ [])))
 effect-count p (clock time output) le =
     omega (arith, le, settle-settles (dropLapsed (withTime p time)) .count, length-alive (withTime p time) (p .waiting))
+effect-count p (setBack reading) le = omega arith
 
 -- ---- which
 

@@ -14,9 +14,10 @@ use Rattle.rules.specs.Lists.{_isIn_, Sent, Before, direct}
 use Rattle.rules.proofs.Raise.{length-raise, raise-same, raise-other, raise-le, getD-none64}
 use Rattle.rules.proofs.Shortened.{StaysOrRemoved, getD-barrierFor, length-barrierFor}
 use Rattle.rules.proofs.WaitingList.{isIn-end}
-use Rattle.rules.proofs.Ready.{limit, dead, dead-limit, dead-hand, limit-hand, ready-true}
+use Rattle.rules.proofs.Ready.{limit, limit-floor, dead, dead-limit, dead-hand, limit-hand, ready-true}
 use Rattle.rules.proofs.Cause.{carried, named, name-path, Known, Upto, Covered, SendsSound, upto-before, upto-upto, upto-rises, source-order, known-deadline, known-source, before-covered}
 use Rattle.rules.proofs.Sound.{LoggedOrDead, LogSound, SummarySound, barrier-logged, WasSent, WaitingSound, PanelSound, known-sent, Next, log-end}
+use Rattle.rules.proofs.Floor.{hand-missing}
 
 -- a list of numbers that names messages of the log is raised by a new one
 raise-logged : (log : List Name) (m : Message) (ns : List ℕ) → m .source < length ns → getD ns (m .source) 0 ≤ m .deadline
@@ -171,4 +172,5 @@ module _ {ss : List Sent} (S : SendsSound ss) {log : List Name} {p : Panel} (G :
         summary = summary-end S (G .log-sound) m next (G .summary) _ (length-barrierFor (p .make) p m ∙ G .summary .barrier-64)
             (thinned-for S (G .log-sound) (G .summary) m s (p .make) p (λ k. inl refl));
         waits = rw (limit-hand p m) (waits-end m (G .waits) other);
+        missing = hand-missing S p (G .summary) m s (omega (arith, alive, limit-floor p)) (G .missing);
       }

@@ -1,6 +1,7 @@
 -- The bench cases; laws of the definitions; what holds of a panel and of every list of calls, step by step; and the theorems.
 pub mod BenchCases
 pub mod Booleans
+pub mod Missed
 pub mod Ready
 pub mod Visiting
 pub mod Raise
@@ -14,6 +15,7 @@ pub mod Checks
 pub mod Handed
 pub mod Cause
 pub mod Sound
+pub mod Floor
 pub mod Handing
 pub mod Sending
 pub mod Keeping
@@ -22,6 +24,7 @@ pub mod Steps
 pub mod SendStep
 pub mod ReceiveStep
 pub mod ClockStep
+pub mod SetBackStep
 pub mod Reached
 pub mod Results
 pub mod Tracing

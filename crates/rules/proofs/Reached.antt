@@ -10,9 +10,10 @@ use Rattle.frame.specs.Message.{Message}
 use Rattle.frame.proofs.Readable.{Readable}
 use Rattle.rules.specs.Sizes.{width}
 use Rattle.rules.specs.Panel.{Name, nameOf, Make, fresh}
-use Rattle.rules.specs.Results.{Call, send, receive, clock, defined}
-use Rattle.rules.specs.Lists.{_isIn_, Made, recordAt, givenTo, sentAt, takenAt, logAt, timeAt, LapsedAt, sends, Before, direct, Given, Lawful, AllPromised}
-use Rattle.rules.proofs.Ready.{limit, limit-time, dead-limit, ready-false}
+use Rattle.rules.specs.Results.{Call, send, receive, clock, setBack, defined}
+use Rattle.rules.specs.Lists.{_isIn_, Made, recordAt, givenTo, sentAt, logAt, timeAt, sends, Before, direct, Given, Lawful, AllPromised}
+use Rattle.rules.specs.Lapsing.{floorAt, LapsedAt, takenAt}
+use Rattle.rules.proofs.Ready.{limit, below-limit, dead-floor, ready-false}
 use Rattle.rules.proofs.Raise.{getD-none64, length-none64}
 use Rattle.rules.proofs.Checks.{Valid}
 use Rattle.rules.proofs.Cause.{named, nothing-sent}
@@ -21,11 +22,12 @@ use Rattle.rules.proofs.Steps.{ListSound, made}
 use Rattle.rules.proofs.SendStep.{send-step}
 use Rattle.rules.proofs.ReceiveStep.{receive-step}
 use Rattle.rules.proofs.ClockStep.{clock-step}
+use Rattle.rules.proofs.SetBackStep.{setBack-step}
 
 -- ---- after every list
 
 empty-sound : ListSound []
-unfolding recordAt logAt sentAt takenAt timeAt sends fresh
+unfolding recordAt logAt sentAt takenAt timeAt floorAt sends fresh
 empty-sound =
     record {
       sends-sound = nothing-sent;
@@ -33,6 +35,7 @@ empty-sound =
           record {
             own = refl;
             time = refl;
+            floor = refl;
             sound =
                 record {
                   log-sound = record { known = λ x k. elim k [ ]; whole = λ x y k. elim k [ ]; once = λ x a. a; order = λ x y a. absurd a };
@@ -47,10 +50,12 @@ empty-sound =
                         barrier-covers = λ x k. elim k [ ];
                       };
                   waits = record { sent = λ w k. elim k [ ]; alive = λ w k. elim k [ ]; unlogged = λ w k. elim k [ ]; distinct = tt };
+                  missing = λ above. absurd (omega (arith, above));
                 };
             few = omega arith;
             settled = λ w k. elim k [ ];
-            placed = λ n k. ⊎-elim (λ a. elim a [ ]) (λ a. elim a [ ]) k;
+            sent = λ n k. elim k [ ];
+            taken = λ n k. elim k [ ];
             mine = λ t k. elim k [ ];
           };
     }
@@ -62,6 +67,7 @@ unfolding Given
 step earlier L i make (send payload lifetime output buffer) given = send-step earlier L i make payload lifetime output buffer given
 step earlier L i make (receive bytes output) given = receive-step earlier L i make bytes output given
 step earlier L i make (clock time output) given = clock-step earlier L i make time output
+step earlier L i make (setBack reading) given = setBack-step earlier L i make reading
 
 pub list-sound : (list : List Made) → Lawful list → AllPromised list → ListSound list
 list-sound [] lawful promised = empty-sound
@@ -76,13 +82,18 @@ module _ (list : List Made) (L : ListSound list) (i : ℕ) where
   pub logged-whole : (n x : Name) → n isIn logAt i list → Before (sends list) x n → (x isIn logAt i list) ⊎ LapsedAt i list x
   logged-whole n x k b =
       let G = L .sites i in
-      ⊎-elim (λ a. inl a) (λ d. inr (omega (arith, d, dead-limit (recordAt i list), limit-time (recordAt i list), G .time))) (G .sound .log-sound .whole n x k b)
+      ⊎-elim (λ a. inl a) (λ d. inr (inr (omega (arith, dead-floor (recordAt i list) (x .deadline) d, G .floor)))) (G .sound .log-sound .whole n x k b)
+
+  -- what has lapsed there is below the limit of the record
+  lapsed-below : (x : Name) → LapsedAt i list x → x .deadline < limit (recordAt i list)
+  lapsed-below x (inl lt) = below-limit (recordAt i list) (x .deadline) (inl (omega (arith, L .sites i .time)))
+  lapsed-below x (inr le) = below-limit (recordAt i list) (x .deadline) (inr (omega (arith, L .sites i .floor)))
 
   -- a message that waits is not ready: some message before it is neither in the log nor lapsed
   waits-for : (w : Message) → w isIn recordAt i list .waiting
       → ((x : Name) → Before (sends list) x (nameOf w) → (x isIn logAt i list) ⊎ LapsedAt i list x) → ⊥
   waits-for w k all =
-      let (s, above, live) = ready-false (recordAt i list) w (L .sites i .settled w k) in
+      let (s, _, above, live) = ready-false (recordAt i list) w (L .sites i .settled w k) in
       go s above live (L .sites i .sound .waits .sent w k)
     where
       go : (s : ℕ) → getD (recordAt i list .marks) s 0 < getD (w .entries) s 0 → limit (recordAt i list) ≤ getD (w .entries) s 0
@@ -91,14 +102,14 @@ module _ (list : List Made) (L : ListSound list) (i : ℕ) where
           let G = L .sites i in
           let b : Before (sends list) (named s (getD (w .entries) s 0)) (nameOf w) =
           direct t j (ap nameOf e) (rw e at (L .sends-sound .entry t j s (rw e (omega arith)))) in
-          ⊎-elim (λ a. omega (arith, G .sound .summary .below-mark _ a, above)) (λ a. omega (arith, a, live, limit-time (recordAt i list), G .time)) (all _ b)
+          ⊎-elim (λ a. omega (arith, G .sound .summary .below-mark _ a, above)) (λ a. omega (arith, lapsed-below (named s (getD (w .entries) s 0)) a, live)) (all _ b)
 
-  -- a message sent or taken there, with all that is before it in the log or lapsed, is in the log or lapsed itself
-  pub whole-logged : (n : Name) → (n isIn sentAt i list) ⊎ (n isIn takenAt i list) → ¬ LapsedAt i list n
+  -- a message sent or taken there, with all that is before it in the log or lapsed, is in the log
+  pub whole-logged : (n : Name) → (n isIn sentAt i list) ⊎ (n isIn takenAt i list)
       → ((x : Name) → Before (sends list) x n → (x isIn logAt i list) ⊎ LapsedAt i list x) → n isIn logAt i list
-  whole-logged n k live all =
-      ⊎-elim (λ a. a) (⊎-elim (λ a. absurd (waits-for (a .0) (a .1) (λ x b. all x (subst (Before (sends list) x) (a .2) b)))) (λ a. absurd (live a)))
-      (L .sites i .placed n k)
+  whole-logged n (inl k) all = L .sites i .sent n k
+  whole-logged n (inr k) all =
+      ⊎-elim (λ a. a) (λ a. absurd (waits-for (a .0) (a .1) (λ x b. all x (subst (Before (sends list) x) (a .2) b)))) (L .sites i .taken n k)
 
 -- ---- its record
 

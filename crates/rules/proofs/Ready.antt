@@ -1,6 +1,6 @@
 -- What `lapsed`, `met` and `ready` say. Which deadlines have lapsed at a panel is one number, its limit; which messages its log may go
 -- without is another, `dead`. Only this file looks into them. Assumes nothing.
-use Prim.Native.Nat.{ℕ, zero, suc, _≤_, _<_}
+use Prim.Native.Nat.{ℕ, zero, suc, _+_, _≤_, _<_, max}
 use native.Mathlib.Nat.{eq-or-lt-of-le, le-of-suc-le-suc, not-suc-le-zero}
 use native.Mathlib.Omega.{arith}
 use mathlib.Core.Path.{_≡_, refl, ap, _∙_}
@@ -9,63 +9,80 @@ use mathlib.Core.Bool.{Bool, true, false, _||_, true≢false}
 use mathlib.Core.List.{List}
 use lib.ListN.{getD}
 use lib.Dec.{leb}
-use borrow.Author.Tests.{lt-ltb, ltb-true, ltb-false, leb-true, leb-false}
+use borrow.Author.Tests.{leb-true, leb-false}
 use Rattle.frame.specs.Message.{Message}
 use Rattle.frame.proofs.Conjunction.{and-both}
-use Rattle.rules.specs.Panel.{Make, Panel, ofMake, lapsed, met, eachPanel, ready}
+use Rattle.rules.specs.Panel.{Make, Panel, ofMake, hasLapsed, lapsed, met, eachPanel, ready}
 use Rattle.rules.specs.Handing.{hand}
 use Rattle.rules.specs.Settling.{withWaiting}
 use Rattle.rules.specs.Calls.{sendDeadline, emptied, withTime}
 use Rattle.rules.proofs.Booleans.{and-either, or-neither}
+use Rattle.rules.proofs.Missed.{hasLapsed-true, hasLapsed-false, missed-lapsed, missed-ge}
 
 -- ---- lapsed
 
 -- the deadlines that have lapsed are those below
 unfoldable pub limit : Panel → ℕ
-limit p = p .time
+limit p = max (p .time) (p .floor + 1)
 
 pub lapsed-true : (p : Panel) (deadline : ℕ) → lapsed p deadline ≡ true → deadline < limit p
 unfolding lapsed limit
-lapsed-true p deadline e = ltb-true deadline (p .time) e
+lapsed-true p deadline e = hasLapsed-true (p .time) (p .floor) deadline e
 
 pub lapsed-false : (p : Panel) (deadline : ℕ) → lapsed p deadline ≡ false → limit p ≤ deadline
 unfolding lapsed limit
-lapsed-false p deadline e = ltb-false deadline (p .time) e
+lapsed-false p deadline e = let (late, above) = hasLapsed-false (p .time) (p .floor) deadline e in omega arith
 
 pub limit-lapsed : (p : Panel) (deadline : ℕ) → deadline < limit p → lapsed p deadline ≡ true
 unfolding lapsed limit
-limit-lapsed p deadline lt = lt-ltb deadline (p .time) lt
+limit-lapsed p deadline lt = go (lapsed p deadline) refl
+  where
+    go : (b : Bool) → lapsed p deadline ≡ b → b ≡ true
+    go true e = refl
+    go false e = absurd (omega (arith, lt, lapsed-false p deadline e))
 
-pub limit-time : (p : Panel) → limit p ≡ p .time
+pub limit-floor : (p : Panel) → p .floor < limit p
 unfolding limit
-limit-time p = refl
+limit-floor p = omega arith
 
-pub limit-sendDeadline : (p : Panel) (lifetime : ℕ) → limit p ≤ sendDeadline p lifetime
+-- by time or by floor
+pub below-limit : (p : Panel) (deadline : ℕ) → (deadline < p .time) ⊎ (deadline ≤ p .floor) → deadline < limit p
+unfolding limit
+below-limit p deadline (inl l) = omega arith
+below-limit p deadline (inr l) = omega arith
+
+-- the deadline of a send has not lapsed, if the floor is not above high
+pub limit-sendDeadline : (p : Panel) (lifetime : ℕ) → p .floor ≤ p .high → limit p ≤ sendDeadline p lifetime
 unfolding limit sendDeadline
-limit-sendDeadline p lifetime = omega arith
+limit-sendDeadline p lifetime le = omega arith
 
 -- ---- dead
 
 -- a message before one of the log is in the log too, or its deadline is below
 unfoldable pub dead : Panel → ℕ
-dead p = p .time
+dead p = p .floor + 1
+
+pub dead-floor : (p : Panel) (deadline : ℕ) → deadline < dead p → deadline ≤ p .floor
+unfolding dead
+dead-floor p deadline lt = omega arith
 
 pub dead-limit : (p : Panel) → dead p ≤ limit p
 unfolding dead limit
 dead-limit p = omega arith
 
 -- an entry that has lapsed, and that no mark has reached, is dead once its message is handed
-pub dead-entry : (p : Panel) (m : Message) (panel : ℕ) → lapsed p (getD (m .entries) panel 0) ≡ true
+pub dead-entry : (p : Panel) (m : Message) (panel : ℕ) → panel < 64 → lapsed p (getD (m .entries) panel 0) ≡ true
     → getD (p .marks) panel 0 < getD (m .entries) panel 0 → getD (m .entries) panel 0 < dead (hand p m)
 unfolding lapsed dead hand
-dead-entry p m panel e above = ltb-true (getD (m .entries) panel 0) (p .time) e
+dead-entry p m panel lt e above = omega (arith, missed-ge (p .time) (p .floor) (λ k. getD (p .marks) k 0) (m .entries) panel lt e above)
 
 -- ---- changes of the record
 
 module _ (p : Panel) where
+  -- the floor never rises above what has lapsed
   pub limit-hand : (m : Message) → limit (hand p m) ≡ limit p
   unfolding limit hand
-  limit-hand m = refl
+  limit-hand m = omega (arith, missed-lapsed (p .time) (p .floor) (λ k. getD (p .marks) k 0) (m .entries))
 
   pub dead-hand : (m : Message) → dead p ≤ dead (hand p m)
   unfolding dead hand
@@ -100,9 +117,13 @@ module _ (p : Panel) where
   unfolding dead
   dead-emptied = refl
 
-  pub dead-withTime : (time : ℕ) → p .time ≤ time → dead p ≤ dead (withTime p time)
+  pub dead-withTime : (time : ℕ) → dead (withTime p time) ≡ dead p
   unfolding dead
-  dead-withTime time le = le
+  dead-withTime time = refl
+
+  pub limit-withTime : (time : ℕ) → time ≤ p .time → limit (withTime p time) ≤ limit p
+  unfolding limit
+  limit-withTime time le = omega arith
 
 -- ---- ready
 
@@ -130,17 +151,30 @@ ready-true p m e panel lt = go (leb (getD (m .entries) panel 0) (getD (p .marks)
         → (reached || lapsed p (getD (m .entries) panel 0)) ≡ true
         → (getD (m .entries) panel 0 ≤ getD (p .marks) panel 0) ⊎ (getD (m .entries) panel 0 < dead (hand p m))
     go true q f = inl (leb-true _ _ q)
-    go false q f = inr (dead-entry p m panel f (leb-false _ _ q))
+    go false q f = inr (dead-entry p m panel lt f (leb-false _ _ q))
 
 -- of one that is not ready some entry is neither reached nor lapsed
 pub ready-false : (p : Panel) (m : Message) → ready p m ≡ false
-    → (panel : ℕ) × (getD (p .marks) panel 0 < getD (m .entries) panel 0) × (limit p ≤ getD (m .entries) panel 0)
+    → (panel : ℕ) × (panel < 64) × (getD (p .marks) panel 0 < getD (m .entries) panel 0) × (limit p ≤ getD (m .entries) panel 0)
 unfolding ready met
 ready-false p m e =
     let (panel, lt, f) = eachPanel-false 64 _ e in
     let (above, live) = or-neither _ _ f in
-    (panel, leb-false _ _ above, lapsed-false p _ live)
+    (panel, lt, leb-false _ _ above, lapsed-false p _ live)
 
 pub ready-withWaiting : (p : Panel) (ms : List Message) (m : Message) → ready (withWaiting p ms) m ≡ ready p m
 unfolding ready met lapsed
 ready-withWaiting p ms m = refl
+
+-- what is not ready is not ready either where the time is lower
+pub ready-withTime : (p : Panel) (time : ℕ) → time ≤ p .time → (m : Message) → ready p m ≡ false → ready (withTime p time) m ≡ false
+ready-withTime p time le m e = go (ready (withTime p time) m) refl (ready-false p m e)
+  where
+    go : (r : Bool) → ready (withTime p time) m ≡ r
+        → (panel : ℕ) × (panel < 64) × (getD (p .marks) panel 0 < getD (m .entries) panel 0) × (limit p ≤ getD (m .entries) panel 0) → r ≡ false
+    go false q unmet = refl
+    go true r (panel, lt, above, live) =
+        let q = withTime p time in
+        absurd (⊎-elim (λ (l : getD (m .entries) panel 0 ≤ getD (p .marks) panel 0). omega arith)
+        (λ l. omega (arith, l, live, dead-limit (hand q m), limit-hand q m, limit-withTime p time le))
+        (ready-true q m r panel lt))

@@ -18,16 +18,18 @@ use Rattle.rules.specs.Calls.{handAndSettle, receiving}
 use Rattle.rules.specs.Refusals.{receiveChecks}
 use Rattle.rules.specs.Results.{receive, refused, done, unless, defined}
 use Rattle.rules.specs.Lists.{_isIn_, Made, givenTo, framesSent, framesTaken, timeAfter, logAt, sends, Given}
+use Rattle.rules.specs.Lapsing.{stillTaken}
 use Rattle.rules.proofs.Booleans.{cond-both}
 use Rattle.rules.proofs.WaitingList.{isIn-end, Distinct-end}
 use Rattle.rules.proofs.Handed.{receiving-readable}
 use Rattle.rules.proofs.Checks.{ReceivePassed, receive-passed}
 use Rattle.rules.proofs.Settling.{settle-settles}
 use Rattle.rules.proofs.Sound.{WasSent, PanelSound}
+use Rattle.rules.proofs.Floor.{hand-floor}
 use Rattle.rules.proofs.Handing.{hand-ready}
 use Rattle.rules.proofs.Keeping.{logWith, Keeps, sound-withWaiting, keeps-hand, settle-keeps}
 use Rattle.rules.proofs.Sites.{Site, siteAt, siteFor, siteAfter, Placed, SiteSound, of-make}
-use Rattle.rules.proofs.Steps.{ListSound, made, quiet-step, unless-step, siteDone, siteAfter-done, placed-after}
+use Rattle.rules.proofs.Steps.{ListSound, made, quiet-step, unless-step, siteDone, siteAfter-done, placed-after, floor-after}
 
 module _ (earlier : List Made) (L : ListSound earlier) (i : ℕ) (make : Make) (bytes output : List ℕ) where
   abbrev site : Site
@@ -53,17 +55,20 @@ module _ (earlier : List Made) (L : ListSound earlier) (i : ℕ) (make : Make) (
     unlogged : ¬ (nameOf m isIn log)
     unlogged k = omega (arith, given-sound .sound .summary .below-mark _ k, P .above-mark)
 
+    -- the site after the call
+    abbrev after : Settled → Site
+    after settled = siteDone (sends earlier) site settled (site .sent) (nameOf m ∷ site .taken) (site .time)
+
     -- ---- it is handed
 
     handed-keeps : ready p m ≡ true → Keeps (sends earlier) log p (handAndSettle p m)
     unfolding handAndSettle
     handed-keeps r =
-        keeps-hand p m (λ w k. inr k)
+        keeps-hand p m refl (hand-floor (L .sends-sound) p (given-sound .sound .summary) m was-sent) (λ w k. inr k)
         (settle-keeps (L .sends-sound) (hand p m) _
         (hand-ready (L .sends-sound) (given-sound .sound) m was-sent (P .alive) unlogged r (P .not-waiting)))
 
-    handed-sound : ready p m ≡ true
-        → SiteSound (sends earlier) i (siteDone site (handAndSettle p m) (site .sent) (nameOf m ∷ site .taken) (site .time))
+    handed-sound : ready p m ≡ true → SiteSound (sends earlier) i (after (handAndSettle p m))
     unfolding handAndSettle hand
     handed-sound r =
         let G = given-sound in
@@ -71,18 +76,18 @@ module _ (earlier : List Made) (L : ListSound earlier) (i : ℕ) (make : Make) (
         record {
           own = T .own ∙ G .own;
           time = T .time ∙ G .time;
+          floor = floor-after (handed-keeps r) (G .time) (G .floor);
           sound = handed-keeps r .sound;
           few = omega (arith, T .count, G .few);
           settled = T .settled;
-          placed = placed;
+          sent = λ n k. Memᴰ·append-left _ (G .sent n k);
+          taken = taken;
           mine = λ s k q. Memᴰ·append-left _ (G .mine s k q);
         }
       where
-        placed : (n : Name) → (n isIn site .sent) ⊎ (n isIn nameOf m ∷ site .taken)
-            → Placed (logWith log (handAndSettle p m .handed)) (handAndSettle p m .panel .waiting) (site .time) n
-        placed n (inl k) = placed-after (handed-keeps r) n (given-sound .placed n (inl k))
-        placed n (inr (first e)) = inl (Memᴰ·append-right log (first e))
-        placed n (inr (later k)) = placed-after (handed-keeps r) n (given-sound .placed n (inr k))
+        taken : (n : Name) → n isIn nameOf m ∷ site .taken → Placed (logWith log (handAndSettle p m .handed)) (handAndSettle p m .panel .waiting) n
+        taken n (first e) = inl (Memᴰ·append-right log (first e))
+        taken n (later k) = placed-after (handed-keeps r) n (given-sound .taken n k)
 
     -- ---- it goes to the end of the list
 
@@ -93,7 +98,7 @@ module _ (earlier : List Made) (L : ListSound earlier) (i : ℕ) (make : Make) (
     waiting-sound =
         let G = given-sound .sound in
         let W = G .waits in
-        sound-withWaiting p (p .waiting ++ (m ∷ [])) (G .log-sound) (G .summary)
+        sound-withWaiting p (p .waiting ++ (m ∷ [])) (G .log-sound) (G .summary) (G .missing)
         (record {
           sent = λ w k. ⊎-elim (W .sent w) (λ e. rw e was-sent) (isIn-end (p .waiting) k);
           alive = λ w k. ⊎-elim (W .alive w) (λ e. rw e (P .alive)) (isIn-end (p .waiting) k);
@@ -104,42 +109,41 @@ module _ (earlier : List Made) (L : ListSound earlier) (i : ℕ) (make : Make) (
     waiting-keeps : Keeps (sends earlier) log q (settle q)
     waiting-keeps = settle-keeps (L .sends-sound) q log waiting-sound
 
-    waits-sound : length (p .waiting) < 32 → SiteSound (sends earlier) i (siteDone site (settle q) (site .sent) (nameOf m ∷ site .taken) (site .time))
+    waits-sound : length (p .waiting) < 32 → SiteSound (sends earlier) i (after (settle q))
     waits-sound room =
         let G = given-sound in
         let T = settle-settles q in
         record {
           own = T .own ∙ G .own;
           time = T .time ∙ G .time;
+          floor = floor-after waiting-keeps (G .time) (G .floor);
           sound = waiting-keeps .sound;
           few = omega (arith, T .count, length-append (p .waiting) (m ∷ []));
           settled = T .settled;
-          placed = λ n k. placed-after waiting-keeps n (placed n k);
+          sent = λ n k. Memᴰ·append-left _ (G .sent n k);
+          taken = λ n k. placed-after waiting-keeps n (taken n k);
           mine = λ s k q. Memᴰ·append-left _ (G .mine s k q);
         }
       where
-        widen : {n : Name} → Placed log (p .waiting) (site .time) n → Placed log (p .waiting ++ (m ∷ [])) (site .time) n
+        widen : {n : Name} → Placed log (p .waiting) n → Placed log (p .waiting ++ (m ∷ [])) n
         widen (inl k) = inl k
-        widen (inr (inl (w, k, e))) = inr (inl (w, Memᴰ·append-left _ k, e))
-        widen (inr (inr k)) = inr (inr k)
+        widen (inr (w, k, e)) = inr (w, Memᴰ·append-left _ k, e)
 
-        placed : (n : Name) → (n isIn site .sent) ⊎ (n isIn nameOf m ∷ site .taken) → Placed log (p .waiting ++ (m ∷ [])) (site .time) n
-        placed n (inl k) = widen (given-sound .placed n (inl k))
-        placed n (inr (first e)) = inr (inl (m, Memᴰ·append-right (p .waiting) (first refl), sym e))
-        placed n (inr (later k)) = widen (given-sound .placed n (inr k))
+        taken : (n : Name) → n isIn nameOf m ∷ site .taken → Placed log (p .waiting ++ (m ∷ [])) n
+        taken n (first e) = inr (m, Memᴰ·append-right (p .waiting) (first refl), sym e)
+        taken n (later k) = widen (given-sound .taken n k)
 
     -- ---- either way
 
-    receiving-sound : SiteSound (sends earlier) i (siteDone site (receiving p m) (site .sent) (nameOf m ∷ site .taken) (site .time))
+    receiving-sound : SiteSound (sends earlier) i (after (receiving p m))
     unfolding receiving
     receiving-sound =
-        cond-both (λ (s : Settled). SiteSound (sends earlier) i (siteDone site s (site .sent) (nameOf m ∷ site .taken) (site .time))) (ready p m)
+        cond-both (λ (s : Settled). SiteSound (sends earlier) i (after s)) (ready p m)
         handed-sound (λ r. waits-sound (⊎-elim (λ l. l) (λ t. absurd (true≢false (sym t ∙ r))) (P .room)))
 
-    site-done : siteAfter site (receive bytes output) (done (receiving p m) output [] [])
-        ≡ siteDone site (receiving p m) (site .sent) (nameOf m ∷ site .taken) (site .time)
-    unfolding framesSent framesTaken timeAfter done
-    site-done = siteAfter-done site (receive bytes output) (receiving p m) output [] [] (receiving-readable p m (P .valid .waiting) readable)
+    site-done : siteAfter (sends earlier) site (receive bytes output) (done (receiving p m) output [] []) ≡ after (receiving p m)
+    unfolding framesSent framesTaken stillTaken timeAfter done
+    site-done = siteAfter-done (sends earlier) site (receive bytes output) (receiving p m) output [] [] (receiving-readable p m (P .valid .waiting) readable)
 
     done-sound : ListSound (made i make (receive bytes output) (done (receiving p m) output [] []) ∷ earlier)
     unfolding framesSent

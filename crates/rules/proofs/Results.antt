@@ -2,9 +2,10 @@
 -- buffers. Assumes nothing.
 use Prim.Native.Nat.{ℕ, zero, suc, _≤_}
 use native.Mathlib.Omega.{arith}
-use mathlib.Core.Path.{_≡_, refl, sym, _∙_}
-use mathlib.Core.Logic.{_≢_}
+use mathlib.Core.Path.{_≡_, refl, sym, ap, _∙_}
+use mathlib.Core.Logic.{_⊎_, inl, inr, ⊎-elim, _≢_}
 use mathlib.Core.Bool.{true, false, not, _||_}
+use mathlib.Core.List.{[]}
 use lib.ListN.{length, drop}
 use lib.Dec.{eqb}
 use borrow.Author.Tests.{eqb-false}
@@ -18,12 +19,12 @@ use Rattle.frame.proofs.Theorems.{frame-size}
 use Rattle.rules.specs.Sizes.{width, outputLength}
 use Rattle.rules.specs.Panel.{Panel}
 use Rattle.rules.specs.Handing.{logRecords}
-use Rattle.rules.specs.Calls.{newMessage}
-use Rattle.rules.specs.Refusals.{broken, sendChecks, messageChecks, receiveChecks, clockChecks, isRefusal}
-use Rattle.rules.specs.Results.{Call, send, receive, clock, outputOf, bufferOf, checksOf, effectOf, frameOf, Result, refused, done, unless, defined}
+use Rattle.rules.specs.Calls.{newMessage, settingBack}
+use Rattle.rules.specs.Refusals.{broken, sendChecks, messageChecks, receiveChecks, clockChecks, setBackChecks, isRefusal}
+use Rattle.rules.specs.Results.{Call, send, receive, clock, setBack, outputOf, bufferOf, checksOf, effectOf, frameOf, Result, refused, done, unless, defined}
 use Rattle.rules.proofs.Booleans.{not-true}
 use Rattle.rules.proofs.LogRecords.{EachReadable, length-logRecords}
-use Rattle.rules.proofs.Checks.{Valid, send-passed, receive-passed, clock-passed, new-readable}
+use Rattle.rules.proofs.Checks.{Valid, send-passed, receive-passed, clock-passed, setBack-passed, new-readable}
 use Rattle.rules.proofs.Handed.{effect-count, sending-readable, receiving-readable, clocking-readable}
 
 -- ---- either refused or done
@@ -48,20 +49,25 @@ defined-number p call = defined-both (λ r. r .number ≡ firstOf (checksOf p ca
 
 -- ---- a call that is not refused
 
--- what holds of every such call
-pub passed-valid : (p : Panel) (call : Call) → firstOf (checksOf p call) ≡ 0 → Valid p × (outputLength ≤ length (outputOf call))
-passed-valid p (send payload lifetime output buffer) e = let P = send-passed p payload lifetime output buffer e in (P .valid, P .output-room)
-passed-valid p (receive bytes output) e = let P = receive-passed p bytes output e in (P .valid, P .output-room)
-passed-valid p (clock time output) e = let P = clock-passed p time output e in (P .valid, P .output-room)
+-- what holds of every such call: it has an output with room for all log records, or hands nothing
+pub passed-valid : (p : Panel) (call : Call) → firstOf (checksOf p call) ≡ 0
+    → Valid p × ((outputLength ≤ length (outputOf call)) ⊎ (effectOf p call .handed ≡ []))
+unfolding settingBack
+passed-valid p (send payload lifetime output buffer) e = let P = send-passed p payload lifetime output buffer e in (P .valid, inl (P .output-room))
+passed-valid p (receive bytes output) e = let P = receive-passed p bytes output e in (P .valid, inl (P .output-room))
+passed-valid p (clock time output) e = let P = clock-passed p time output e in (P .valid, inl (P .output-room))
+passed-valid p (setBack reading) e = (setBack-passed p e, inr refl)
 
 -- what is given to a call is bytes
 abbrev pub BytesOf : Call → Type 0
 BytesOf (send payload lifetime output buffer) = Bytes payload
 BytesOf (receive bytes output) = Bytes bytes
 BytesOf (clock time output) = Unit {0}
+BytesOf (setBack reading) = Unit {0}
 
 effect-readable : (p : Panel) (call : Call) → length (p .barrier) ≡ 64 → BytesOf call → firstOf (checksOf p call) ≡ 0
     → EachReadable (effectOf p call .handed)
+unfolding settingBack
 effect-readable p (send payload lifetime output buffer) len bytes e =
     let P = send-passed p payload lifetime output buffer e in
     sending-readable p payload lifetime (P .valid .waiting) (new-readable p payload lifetime output buffer P len bytes)
@@ -69,13 +75,16 @@ effect-readable p (receive bytes output) len given e =
     let P = receive-passed p bytes output e in
     receiving-readable p (messageIn width bytes) (P .valid .waiting) (passed-readable width bytes given (zero-passed width bytes (P .read)))
 effect-readable p (clock time output) len given e = clocking-readable p time (clock-passed p time output e .valid .waiting)
+effect-readable p (setBack reading) len given e = λ m i. elim i [ ]
 
 -- the log records fit the output
 pub output-fits : (p : Panel) (call : Call) → length (p .barrier) ≡ 64 → BytesOf call → firstOf (checksOf p call) ≡ 0
     → length (logRecords (effectOf p call .handed)) ≤ length (outputOf call)
 output-fits p call len bytes e =
     let (valid, room) = passed-valid p call e in
-    omega (arith, room, effect-count p call (valid .count), length-logRecords (effectOf p call .handed) (effect-readable p call len bytes e))
+    let records = length-logRecords (effectOf p call .handed) (effect-readable p call len bytes e) in
+    ⊎-elim (λ (l : outputLength ≤ length (outputOf call)). omega (arith, effect-count p call (valid .count), records))
+    (λ none. omega (arith, records, ap length none)) room
 
 -- the frame fits the frame buffer
 pub buffer-fits : (p : Panel) (call : Call) → length (p .barrier) ≡ 64 → BytesOf call → firstOf (checksOf p call) ≡ 0
@@ -86,22 +95,25 @@ buffer-fits p (send payload lifetime output buffer) len bytes e =
     omega (arith, P .buffer-room, frame-size (newMessage p payload lifetime) (readable-true width (newMessage p payload lifetime) r) .1)
 buffer-fits p (receive bytes output) len given e = omega arith
 buffer-fits p (clock time output) len given e = omega arith
+buffer-fits p (setBack reading) len given e = omega arith
 
 -- ---- numbers
 
 pub checks-listed : (p : Panel) (call : Call) → eachNumber (λ n. eqb n 0 || isRefusal n) (checksOf p call) ≡ true
-unfolding eachNumber sendChecks receiveChecks messageChecks clockChecks checks
+unfolding eachNumber sendChecks receiveChecks messageChecks clockChecks setBackChecks checks
 checks-listed p (send payload lifetime output buffer) = refl
 checks-listed p (receive bytes output) = refl
 checks-listed p (clock time output) = refl
+checks-listed p (setBack reading) = refl
 
 -- the first check of each call is that of 26, and no other has its number
 checks-26 : (p : Panel) (call : Call)
     → (applies (checksOf p call) 0 ≡ broken p) × (eachNumber (λ n. not (eqb n 26)) (drop 1 (checksOf p call)) ≡ true)
-unfolding eachNumber sendChecks receiveChecks messageChecks clockChecks checks
+unfolding eachNumber sendChecks receiveChecks messageChecks clockChecks setBackChecks checks
 checks-26 p (send payload lifetime output buffer) = (refl, refl)
 checks-26 p (receive bytes output) = (refl, refl)
 checks-26 p (clock time output) = (refl, refl)
+checks-26 p (setBack reading) = (refl, refl)
 
 pub number-26 : (p : Panel) (call : Call) → broken p ≡ false → defined p call .number ≢ 26
 number-26 p call e q =

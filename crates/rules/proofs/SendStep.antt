@@ -2,7 +2,7 @@
 use Prim.Native.Nat.{ℕ, _+_, _≤_}
 use native.Mathlib.Omega.{arith}
 use mathlib.Core.Path.{_≡_, refl, sym, ap, _∙_, subst, subst⁻¹}
-use mathlib.Core.Logic.{_⊎_, inl, inr, _≢_}
+use mathlib.Core.Logic.{inr, _≢_}
 use mathlib.Core.List.{List, [], _∷_, _++_, List·Memᴰ·head as first, List·Memᴰ·tail as later, Memᴰ·append-left, Memᴰ·append-right, Memᴰ·cast}
 use lib.ListN.{length, take}
 use Rattle.numbers.specs.Numbers.{Bytes}
@@ -21,16 +21,18 @@ use Rattle.rules.specs.Calls.{handAndSettle, sendDeadline, newMessage, e
 use Rattle.rules.specs.Refusals.{sendChecks}
 use Rattle.rules.specs.Results.{send, Result, done, defined}
 use Rattle.rules.specs.Lists.{_isIn_, Made, givenTo, framesSent, framesTaken, timeAfter, logAt, Sent, sends}
+use Rattle.rules.specs.Lapsing.{floorHanded, stillTaken}
 use Rattle.rules.proofs.Ready.{limit, limit-sendDeadline}
 use Rattle.rules.proofs.Checks.{SendPassed, send-passed, new-readable}
 use Rattle.rules.proofs.Handed.{sending-readable}
 use Rattle.rules.proofs.Settling.{settle-settles}
 use Rattle.rules.proofs.Cause.{carried, name, SendsSound}
 use Rattle.rules.proofs.Sound.{barrier-logged, PanelSound}
+use Rattle.rules.proofs.Floor.{hand-floor, floor-high}
 use Rattle.rules.proofs.Sending.{New, sends-more, panel-more, own-sound}
 use Rattle.rules.proofs.Keeping.{logWith, Keeps, keeps-hand, settle-keeps}
-use Rattle.rules.proofs.Sites.{Site, siteAt, siteFor, siteAfter, Placed, SiteSound, of-make}
-use Rattle.rules.proofs.Steps.{ListSound, list-with, made, unless-step, siteDone, siteAfter-done, placed-after}
+use Rattle.rules.proofs.Sites.{Site, siteAt, siteFor, siteAfter, SiteSound, of-make}
+use Rattle.rules.proofs.Steps.{ListSound, list-with, made, unless-step, siteDone, siteAfter-done, placed-after, floor-after}
 
 module _ (earlier : List Made) (L : ListSound earlier) (i : ℕ) (make : Make) (payload : List ℕ) (lifetime : ℕ) (output buffer : List ℕ) where
   abbrev site : Site
@@ -78,7 +80,7 @@ module _ (earlier : List Made) (L : ListSound earlier) (i : ℕ) (make : Make) (
 
   alive : limit p ≤ m .deadline
   unfolding newMessage
-  alive = limit-sendDeadline p lifetime
+  alive = limit-sendDeadline p lifetime (floor-high (L .sends-sound) (given-sound .sound))
 
   -- a send that passes the checks
   module _ (P : SendPassed p payload lifetime output buffer) (bytes : Bytes payload) where
@@ -102,9 +104,17 @@ module _ (earlier : List Made) (L : ListSound earlier) (i : ℕ) (make : Make) (
     -- and the panel settles
     keeps : Keeps (new ∷ sends earlier) (logAt i earlier) p (sending p payload lifetime)
     unfolding sending handAndSettle
-    keeps = keeps-hand (emptied p) m (λ w k. inr k) (settle-keeps sends-sound (hand (emptied p) m) _ handed-sound)
+    keeps = keeps-hand (emptied p) m refl floor (λ w k. inr k) (settle-keeps sends-sound (hand (emptied p) m) _ handed-sound)
+      where
+        floor : hand (emptied p) m .floor ≡ floorHanded (new ∷ sends earlier) (p .time) (p .floor) (logAt i earlier) (nameOf m)
+        floor =
+            hand-floor sends-sound (emptied p) (panel-more (L .sends-sound) new carried-new (given-sound .sound) .summary) m
+            (new, first refl, carried-is readable)
 
-    site-sound : SiteSound (new ∷ sends earlier) i (siteDone site (sending p payload lifetime) (name new ∷ site .sent) (site .taken) (site .time))
+    abbrev site′ : Site
+    site′ = siteDone (new ∷ sends earlier) site (sending p payload lifetime) (name new ∷ site .sent) (site .taken) (site .time)
+
+    site-sound : SiteSound (new ∷ sends earlier) i site′
     unfolding sending handAndSettle hand
     site-sound =
         let G = given-sound in
@@ -112,21 +122,21 @@ module _ (earlier : List Made) (L : ListSound earlier) (i : ℕ) (make : Make) (
         record {
           own = T .own ∙ G .own;
           time = T .time ∙ G .time;
+          floor = floor-after keeps (G .time) (G .floor);
           sound = keeps .sound;
           few = omega (arith, T .count, G .few);
           settled = T .settled;
-          placed = placed;
+          sent = sent;
+          taken = λ n k. placed-after keeps n (G .taken n k);
           mine = mine;
         }
       where
         in-log : name new isIn logWith (logAt i earlier) (sending p payload lifetime .handed)
         in-log = Memᴰ·append-right (logAt i earlier) (first (ap nameOf (carried-is readable)))
 
-        placed : (n : Name) → (n isIn name new ∷ site .sent) ⊎ (n isIn site .taken)
-            → Placed (logWith (logAt i earlier) (sending p payload lifetime .handed)) (sending p payload lifetime .panel .waiting) (site .time) n
-        placed n (inl (first e)) = inl (Memᴰ·cast e in-log)
-        placed n (inl (later k)) = placed-after keeps n (given-sound .placed n (inl k))
-        placed n (inr k) = placed-after keeps n (given-sound .placed n (inr k))
+        sent : (n : Name) → n isIn name new ∷ site .sent → n isIn logWith (logAt i earlier) (sending p payload lifetime .handed)
+        sent n (first e) = Memᴰ·cast e in-log
+        sent n (later k) = Memᴰ·append-left _ (given-sound .sent n k)
 
         mine : (s : Sent) → s isIn new ∷ sends earlier → name s .source ≡ i → name s isIn logWith (logAt i earlier) (sending p payload lifetime .handed)
         mine s (first e) q = Memᴰ·cast (ap name e) in-log
@@ -139,10 +149,12 @@ module _ (earlier : List Made) (L : ListSound earlier) (i : ℕ) (make : Make) (
         record {
           own = G .own;
           time = G .time;
+          floor = G .floor;
           sound = panel-more (L .sends-sound) new carried-new (G .sound);
           few = G .few;
           settled = G .settled;
-          placed = G .placed;
+          sent = G .sent;
+          taken = G .taken;
           mine = mine;
         }
       where
@@ -155,10 +167,9 @@ module _ (earlier : List Made) (L : ListSound earlier) (i : ℕ) (make : Make) (
     unfolding sends framesSent done new
     sends-done = refl
 
-    site-done : siteAfter site (send payload lifetime output buffer) result
-        ≡ siteDone site (sending p payload lifetime) (name new ∷ site .sent) (site .taken) (site .time)
-    unfolding framesSent framesTaken timeAfter done new
-    site-done = siteAfter-done site (send payload lifetime output buffer) (sending p payload lifetime) output (frame width m) buffer
+    site-done : siteAfter (new ∷ sends earlier) site (send payload lifetime output buffer) result ≡ site′
+    unfolding framesSent framesTaken stillTaken timeAfter done new
+    site-done = siteAfter-done (new ∷ sends earlier) site (send payload lifetime output buffer) (sending p payload lifetime) output (frame width m) buffer
         (sending-readable p payload lifetime (P .valid .waiting) readable)
 
     done-sound : ListSound (made i make (send payload lifetime output buffer) result ∷ earlier)

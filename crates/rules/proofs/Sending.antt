@@ -14,9 +14,10 @@ use Rattle.rules.specs.Calls.{emptied}
 use Rattle.rules.specs.Lists.{_isIn_, Sent, Before, direct}
 use Rattle.rules.proofs.Raise.{length-none64}
 use Rattle.rules.proofs.Shortened.{length-barrierFor}
-use Rattle.rules.proofs.Ready.{limit, dead, dead-limit, dead-hand, limit-hand, limit-emptied, dead-emptied}
+use Rattle.rules.proofs.Ready.{limit, limit-floor, dead, dead-limit, dead-hand, limit-hand, limit-emptied, dead-emptied}
 use Rattle.rules.proofs.Cause.{carried, name, named, Known, Covered, SendsSound, LastStep, last, before-more, before-old}
 use Rattle.rules.proofs.Sound.{LoggedOrDead, LogSound, SummarySound, WaitingSound, PanelSound, known-sent, ahead-isIn, Next, log-end}
+use Rattle.rules.proofs.Floor.{hand-missing}
 use Rattle.rules.proofs.Handing.{summary-end, thinned-all, thinned-for, waits-end}
 
 -- m is sent with this log before it, at a panel that has all messages of its own in its log
@@ -104,7 +105,13 @@ module _ {ss : List Sent} (S : SendsSound ss) (new : Sent) (N : New ss (carried 
       record { sent = λ w i. let (s, j, e) = W .sent w i in (s, later j, e); alive = W .alive; unlogged = W .unlogged; distinct = W .distinct }
 
   pub panel-more : {log : List Name} {p : Panel} → PanelSound ss log p → PanelSound (new ∷ ss) log p
-  panel-more G = record { log-sound = log-more (G .log-sound); summary = summary-more (G .summary); waits = waits-more (G .waits) }
+  panel-more G =
+      record {
+        log-sound = log-more (G .log-sound);
+        summary = summary-more (G .summary);
+        waits = waits-more (G .waits);
+        missing = λ pos. let (x, n, d, k, b, out) = G .missing pos in (x, n, d, k, before-more b, out);
+      }
 
   -- ---- at the sender's own panel
 
@@ -134,4 +141,5 @@ module _ {ss : List Sent} (S : SendsSound ss) (new : Sent) (N : New ss (carried 
             (thinned-all m (H .summary) (λ x i. direct new (first refl) refl i)));
         waits = rw (limit-hand (emptied p) m, limit-emptied p)
             (waits-end m (H .waits) (λ w i e. unknown (let (s, j, q) = known-sent (G .waits .sent w i) in (s, j, q ∙ e))));
+        missing = hand-missing sends-more (emptied p) (H .summary) m (new, first refl, refl) (omega (arith, alive, limit-floor p)) (H .missing);
       }

@@ -12,6 +12,7 @@ use Rattle.rules.specs.Panel.{Panel, ready}
 use Rattle.rules.specs.Handing.{hand}
 use Rattle.rules.specs.Settling.{choice, without, withWaiting, Settled, waitingAt, goOn, settleIn, settle}
 use Rattle.rules.specs.Lists.{_isIn_}
+use Rattle.rules.proofs.Ready.{limit, limit-hand, limit-withWaiting}
 use Rattle.rules.proofs.Raise.{raise-le}
 use Rattle.rules.proofs.Choice.{choice-none, choice-some}
 use Rattle.rules.proofs.WaitingList.{isIn-without, getD-isIn, without-isIn, length-without}
@@ -81,6 +82,7 @@ settle-step p = settleIn-settleBy (length (p .waiting)) p ∙ go (length (p .wai
 pub record Settles (p : Panel) (s : Settled) : Type 0 where
   pub own : s .panel .own ≡ p .own
   pub time : s .panel .time ≡ p .time
+  pub limit-stays : limit (s .panel) ≡ limit p
   pub count : length (s .panel .waiting) + length (s .handed) ≡ length (p .waiting)
   pub left : (w : Message) → w isIn s .panel .waiting → w isIn p .waiting
   pub handed : (w : Message) → w isIn s .handed → w isIn p .waiting
@@ -88,13 +90,25 @@ pub record Settles (p : Panel) (s : Settled) : Type 0 where
   pub marks : (source : ℕ) → getD (p .marks) source 0 ≤ getD (s .panel .marks) source 0
   pub settled : NoneReady (s .panel)
 
--- Settling ends with nothing ready waiting; what it leaves and what it hands was waiting, and all that was; no mark falls.
+-- Settling ends with nothing ready waiting; what it leaves and what it hands was waiting, and all that was; no mark falls, and what has lapsed stays
+-- what it was.
 pub settle-settles : (p : Panel) → Settles p (settle p)
 unfolding hand
 settle-settles = settle-induction Settles stop step
   where
     stop : (p : Panel) → NoneReady p → Settles p (record { panel = p; handed = [] })
-    stop p unready = record { own = refl; time = refl; count = omega arith; left = λ w i. i; handed = λ w i. elim i [ ]; kept = λ w i. inl i; marks = λ source. omega arith; settled = unready }
+    stop p unready =
+        record {
+          own = refl;
+          time = refl;
+          limit-stays = refl;
+          count = omega arith;
+          left = λ w i. i;
+          handed = λ w i. elim i [ ];
+          kept = λ w i. inl i;
+          marks = λ source. omega arith;
+          settled = unready;
+        }
 
     step : (p : Panel) (place : ℕ) (rest : Settled) → place < length (p .waiting) → ready p (waitingAt p place) ≡ true
         → Settles (handAt p place) rest → Settles p (record { panel = rest .panel; handed = waitingAt p place ∷ rest .handed })
@@ -102,6 +116,9 @@ settle-settles = settle-induction Settles stop step
         record {
           own = S .own;
           time = S .time;
+          limit-stays =
+              let q = withWaiting p (without place (p .waiting)) in
+              S .limit-stays ∙ limit-hand q (waitingAt p place) ∙ limit-withWaiting p (without place (p .waiting));
           count = omega (arith, S .count, length-handAt p place lt);
           left = λ w i. isIn-without place (p .waiting) w (S .left w i);
           handed = λ w i. one w i (S .handed w);

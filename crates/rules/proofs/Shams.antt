@@ -2,7 +2,7 @@
 use Prim.Native.Nat.{ℕ}
 use native.Mathlib.Omega.{arith}
 use mathlib.Core.Path.{_≡_, refl}
-use mathlib.Core.Logic.{inl, inr}
+use mathlib.Core.Logic.{inl, inr, ⊎-elim}
 use mathlib.Core.List.{List, [], _∷_, _++_, List·Memᴰ·head as first, List·Memᴰ·tail as later}
 use Rattle.numbers.specs.Numbers.{Bytes}
 use Rattle.frame.specs.Reading.{messageIn}
@@ -12,8 +12,9 @@ use Rattle.rules.specs.Sizes.{width}
 use Rattle.rules.specs.Panel.{Name, Make, newMake, Panel, fresh}
 use Rattle.rules.specs.Settling.{withWaiting}
 use Rattle.rules.specs.Calls.{handAndSettle}
-use Rattle.rules.specs.Results.{Call, send, receive, clock, Result, done, defined}
-use Rattle.rules.specs.Lists.{_isIn_, Made, recordAt, framesSent, framesTaken, sentAt, takenAt, namesIn, logAt, timeAfter, timeAt, LapsedAt, sends, Before, direct, Given, Lawful, ran}
+use Rattle.rules.specs.Results.{Call, send, receive, clock, setBack, Result, done, defined}
+use Rattle.rules.specs.Lists.{_isIn_, Made, recordAt, framesSent, framesTaken, sentAt, namesIn, logAt, timeAfter, timeAt, sends, Before, direct, Given, Lawful, ran}
+use Rattle.rules.specs.Lapsing.{entriesSent, markIn, floorHanded, floorAfter, floorAt, LapsedAt, isOneOf, notDropped, stillTaken, takenAt}
 use Rattle.rules.specs.Demand3.{ExactlyWhen, NoneTwice, NoneAhead}
 use Rattle.rules.specs.Cases.{output, buffer}
 use Rattle.rules.specs.BenchCases.{deadline1, frame1, deadline2, frame2}
@@ -28,12 +29,14 @@ holdsBack p (send payload lifetime output buffer) = defined p (send payload life
 holdsBack p (receive bytes output) =
     done (record { panel = withWaiting p (p .waiting ++ (messageIn width bytes ∷ [])); handed = [] }) output [] []
 holdsBack p (clock time output) = defined p (clock time output)
+holdsBack p (setBack reading) = defined p (setBack reading)
 
 -- one that hands each on arrival
 pub handsOnArrival : Panel → Call → Result
 handsOnArrival p (send payload lifetime output buffer) = defined p (send payload lifetime output buffer)
 handsOnArrival p (receive bytes output) = done (handAndSettle p (messageIn width bytes)) output [] []
 handsOnArrival p (clock time output) = defined p (clock time output)
+handsOnArrival p (setBack reading) = defined p (setBack reading)
 
 -- one that returns the record as it came
 pub recordAsItCame : Panel → Call → Result
@@ -66,7 +69,7 @@ crossed gives = ran gives ((0, newMake, receive frame1 output) ∷ (0, newMake, 
 
 -- whoever unfolds these unfolds all definitions of lists, and then these lists
 unfoldable pub listsOpened : Unit {0}
-unfolding callsOpened fresh recordAt framesSent framesTaken sentAt takenAt namesIn logAt timeAfter timeAt sends Given
+unfolding callsOpened fresh recordAt framesSent framesTaken sentAt namesIn logAt timeAfter timeAt sends entriesSent markIn floorHanded floorAfter floorAt isOneOf notDropped stillTaken takenAt Given
 listsOpened = tt
 
 shamsOpened : Unit {0}
@@ -100,7 +103,7 @@ crossed-lawful = (inl (_, later (first refl), refl), (inl (_, first refl, refl),
 holding-back : (hold isIn takenAt 0 (once holdsBack)) × ¬ LapsedAt 0 (once holdsBack) hold
     × ((x : Name) → ¬ Before (sends (once holdsBack)) x hold) × ¬ (hold isIn logAt 0 (once holdsBack))
 unfolding shamsOpened
-holding-back = (first refl, λ lt. omega (arith, lt), λ x b. alone x (last b), λ i. elim i [ ])
+holding-back = (first refl, ⊎-elim (λ lt. omega (arith, lt)) (λ le. omega (arith, le)), λ x b. alone x (last b), λ i. elim i [ ])
   where
     alone : (x : Name) → LastStep (sends (once holdsBack)) x hold → ⊥
     alone x (y, u, s, first e, q, h) = elim (rw e at h) [ ]

@@ -54,10 +54,15 @@ pub record WaitingSound (ss : List Sent) (log : List Name) (limit : ℕ) (waitin
   pub unlogged : (w : Message) → w isIn waiting → ¬ (nameOf w isIn log)
   pub distinct : Distinct waiting
 
+-- a message that is before one of the log, and is not in it, has this deadline
+abbrev pub Missing : List Sent → List Name → ℕ → Type 0
+Missing ss log deadline = (x n : Name) × (x .deadline ≡ deadline) × (n isIn log) × Before ss x n × ¬ (x isIn log)
+
 pub record PanelSound (ss : List Sent) (log : List Name) (p : Panel) : Type 0 where
   pub log-sound : LogSound ss log (dead p)
   pub summary : SummarySound ss log (p .marks) (p .barrier) (p .high)
   pub waits : WaitingSound ss log (limit p) (p .waiting)
+  pub missing : 0 < p .floor → Missing ss log (p .floor)
 
 pub known-sent : {ss : List Sent} {m : Message} → WasSent ss m → Known ss (nameOf m)
 known-sent (s, i, e) = (s, i, ap nameOf e)

@@ -27,6 +27,7 @@ use Rattle.rules.specs.Refusals.{isRefusal, Listed, broken, freshNumber,
 use Rattle.rules.specs.Results.{Call, outputOf, bufferOf, checksOf, effectOf, frameOf, Result, refused, done, defined, Promised, send}
 use Rattle.rules.specs.Visiting.{traceChecks, trace}
 use Rattle.rules.specs.Lists.{_isIn_, Made, recordAt, givenTo, logAt, Lawful, AllPromised, ran}
+use Rattle.rules.specs.Lapsing.{floorAt}
 use Rattle.rules.specs.Demand3.{Demand3}
 use Rattle.rules.proofs.Booleans.{or-either, cond-both}
 use Rattle.rules.proofs.Settling.{settle-settles}
@@ -46,7 +47,7 @@ demand-3 list lawful promised =
     let L = list-sound list lawful promised in
     record {
       as-defined = promised;
-      exactly-when = λ i n k live. (λ logged x b. logged-whole list L i n x logged b, λ all. whole-logged list L i n k live all);
+      exactly-when = λ i n k live. (λ logged x b. logged-whole list L i n x logged b, λ all. whole-logged list L i n k all);
       none-twice = λ i. L .sites i .sound .log-sound .once;
       none-ahead = λ i. L .sites i .sound .log-sound .order;
     }
@@ -66,6 +67,10 @@ pub every-mixture : (makes : ℕ → Make) (gives : Panel → Call → Result) �
     → let list = ran gives (map (λ (next : ℕ × Call). (next .0, makes (next .0), next .1)) calls) in
     Lawful list → Demand3 list
 every-mixture makes gives promise calls = every-list gives promise (map (λ (next : ℕ × Call). (next .0, makes (next .0), next .1)) calls)
+
+-- The floor that a record has is the one counted from the list.
+pub floor-counted : (list : List Made) → Lawful list → AllPromised list → (panel : ℕ) → recordAt panel list .floor ≡ floorAt panel list
+floor-counted list lawful promised panel = list-sound list lawful promised .sites panel .floor
 
 -- A mark is the largest deadline in this panel's log from that source; 0 means none.
 pub mark-largest : (list : List Made) → Lawful list → AllPromised list → (panel source : ℕ)

@@ -5,7 +5,7 @@ use lib.ListN.{replicate}
 use Rattle.frame.specs.Message.{Message, messageOf}
 use Rattle.rules.specs.Panel.{Make, oldMake, newMake, fresh, ofMake}
 use Rattle.rules.specs.Results.{send, receive}
-use Rattle.rules.specs.Cases.{Step, step, of, panelOf, output, buffer, logged, frameFrom, zeros8, sent, taken, refusedWith}
+use Rattle.rules.specs.Cases.{Step, step, of, panelOf, withFloor, output, buffer, logged, frameFrom, zeros8, sent, taken, refusedWith}
 
 -- ---- A busy yard. Panels 0, 1, 2 and 3, at time 0, send one message each, with lifetimes 100, 200, 300 and 400: A, B, C and D. Each has those
 -- before its own in its log. B names A; so a new panel that has A and B in its log names B alone. Of the old make C has 27 bytes and D 31; of
@@ -84,7 +84,7 @@ caseYardMixed make other =
     ∷ []
 
 -- ---- Which entries are removed. Panel 3, at time 61, hears 200 of panel 1 with the entries 100 of panel 0, 100 of panel 4 and 60 of panel 5,
--- which has lapsed. Of its barrier the entry 100 of panel 0 is equal to the one carried, and goes; 101 of panel 4 is above it, and stays; 50 of
+-- which has lapsed, and which no mark has reached: the floor rises to it. Of its barrier the entry 100 of panel 0 is equal to the one carried, and goes; 101 of panel 4 is above it, and stays; 50 of
 -- panel 5 is below it, and goes; for panel 6 the message has none, and 70 stays. While it waits for 100 of panel 4, nothing goes.
 
 unfoldable pub caseRemoved : List Step
@@ -98,12 +98,12 @@ caseRemoved =
     let less = of ((0, 100) ∷ (4, 99) ∷ (5, 50) ∷ (6, 70) ∷ []) in
     let waits : List Message = messageOf 1 200 (of ((0, 100) ∷ (4, 100) ∷ (5, 60) ∷ [])) [] ∷ [] in
     let frame4 = frameFrom (0x04 ∷ 0x00 ∷ 0x00 ∷ 0x00 ∷ 0x65 ∷ zeros8) (0x00 ∷ []) in
-    step (panelOf 3 61 101 had had []) (receive frame output) (taken (panelOf 3 61 200 has left []) (line ∷ []))
-    ∷ step (ofMake oldMake (panelOf 3 61 101 had had [])) (receive frame output) (taken (ofMake oldMake (panelOf 3 61 200 has has [])) (line ∷ []))
+    step (panelOf 3 61 101 had had []) (receive frame output) (taken (withFloor 60 (panelOf 3 61 200 has left [])) (line ∷ []))
+    ∷ step (ofMake oldMake (panelOf 3 61 101 had had [])) (receive frame output) (taken (ofMake oldMake (withFloor 60 (panelOf 3 61 200 has has []))) (line ∷ []))
     ∷ step (panelOf 3 61 100 less less []) (receive frame output) (taken (panelOf 3 61 100 less less waits) [])
     ∷ step (panelOf 3 61 100 less less waits) (receive frame output) (refusedWith 22 (panelOf 3 61 100 less less waits) output [])
     ∷ step (panelOf 3 61 100 less less waits) (receive frame4 output)
-    (taken (panelOf 3 61 200 has left []) (logged (4 ∷ 0x00 ∷ 0x00 ∷ 0x00 ∷ 0x65 ∷ 0 ∷ []) ∷ line ∷ []))
+    (taken (withFloor 60 (panelOf 3 61 200 has left [])) (logged (4 ∷ 0x00 ∷ 0x00 ∷ 0x00 ∷ 0x65 ∷ 0 ∷ []) ∷ line ∷ []))
     ∷ []
 
 -- ---- The entry of the message's own panel is removed, and its own goes in. Panel 3 has 200 of panel 1 in its log, and hears panel 1's next,

@@ -10,6 +10,7 @@ use Rattle.rules.specs.Calls.{beaconLifetime}
 use Rattle.rules.specs.Results.{send, receive, clock}
 use Rattle.rules.specs.Cases.{Step, step, Look, look, of, panelOf, output, buffer, logged, frameFrom, zeros8, sent, taken, refusedWith}
 use Rattle.rules.specs.BarrierCases.{caseYard, caseYardMixed, caseRemoved, caseOwn}
+use Rattle.rules.specs.FloorCases.{caseWrongYear, caseFloor, caseFloorUnreached}
 use Rattle.rules.specs.FarAheadCases.{farFrame1, farFrame2, caseFarAhead, caseFarAheadStays, caseLastDays}
 
 -- ---- 1: panel 3, time 100, sends 4F 4B with lifetime 0: deadline 7300; 21 bytes
@@ -249,4 +250,4 @@ abbrev pub benchCases : List (List Step)
 benchCases =
     case1 ∷ case2 ∷ case3 ∷ case4 ∷ case5 ∷ case6 ∷ case7 ∷ case8 ∷ case9 ∷ case10 ∷ case11 ∷ caseBeacon ∷ caseOrder ∷ caseUnreached ∷ caseFarAhead ∷ caseFarAheadStays
     ∷ caseLastDays ∷ caseYard newMake ∷ caseYard oldMake ∷ caseYardMixed newMake newMake ∷ caseYardMixed newMake oldMake ∷ caseYardMixed oldMake newMake
-    ∷ caseYardMixed oldMake oldMake ∷ caseRemoved ∷ caseOwn ∷ []
+    ∷ caseYardMixed oldMake oldMake ∷ caseRemoved ∷ caseOwn ∷ caseWrongYear ∷ caseFloor ∷ caseFloorUnreached ∷ []

@@ -1,5 +1,5 @@
--- Document 01, "The three calls": what each does where it is not turned down.
-use Prim.Native.Nat.{ℕ, zero, suc, _+_, max}
+-- Document 01, "The three calls", and document 02, W-207: what each call does where it is not turned down.
+use Prim.Native.Nat.{ℕ, zero, suc, _+_, min, max}
 use mathlib.Core.Bool.{cond}
 use mathlib.Core.List.{List, [], _∷_, _++_}
 use Rattle.frame.specs.Message.{Message, messageOf}
@@ -35,7 +35,17 @@ newMessage p payload lifetime = messageOf (p .own) (sendDeadline p lifetime) (p 
 
 -- the record with its barrier emptied
 abbrev pub emptied : Panel → Panel
-emptied p = record { own = p .own; time = p .time; high = p .high; marks = p .marks; barrier = none64; waiting = p .waiting; make = p .make }
+emptied p =
+    record {
+      own = p .own;
+      time = p .time;
+      high = p .high;
+      marks = p .marks;
+      barrier = none64;
+      waiting = p .waiting;
+      floor = p .floor;
+      make = p .make;
+    }
 
 -- After that the barrier is emptied, the own message is handed, and the panel settles.
 unfoldable pub sending : Panel → List ℕ → ℕ → Settled
@@ -51,17 +61,33 @@ receiving p m = cond (ready p m) (handAndSettle p m) (settle (withWaiting p (p .
 
 -- the record with its time set
 abbrev pub withTime : Panel → ℕ → Panel
-withTime p time = record { own = p .own; time = time; high = p .high; marks = p .marks; barrier = p .barrier; waiting = p .waiting; make = p .make }
+withTime p time =
+    record {
+      own = p .own;
+      time = time;
+      high = p .high;
+      marks = p .marks;
+      barrier = p .barrier;
+      waiting = p .waiting;
+      floor = p .floor;
+      make = p .make;
+    }
 
 -- the messages of the list that have not lapsed
 unfoldable pub alive : Panel → List Message → List Message
 alive p [] = []
 alive p (m ∷ ms) = cond (lapsed p (m .deadline)) [] (m ∷ []) ++ alive p ms
 
--- the record without the lapsed waiting messages, which are never handed
+-- the record without the lapsed waiting messages
 abbrev pub dropLapsed : Panel → Panel
 dropLapsed p = withWaiting p (alive p (p .waiting))
 
 -- The time is set, lapsed waiting messages are dropped, then the panel settles.
 unfoldable pub clocking : Panel → ℕ → Settled
 clocking p time = settle (dropLapsed (withTime p time))
+
+-- ---- Set back
+
+-- Document 02, W-207: the service call "sets the time to the lower of its own and the reading, and hands and drops nothing".
+unfoldable pub settingBack : Panel → ℕ → Settled
+settingBack p reading = record { panel = withTime p (min (p .time) reading); handed = [] }

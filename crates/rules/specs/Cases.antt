@@ -46,10 +46,24 @@ abbrev pub of : List (ℕ × ℕ) → List ℕ
 of [] = none64
 of (n ∷ ns) = set (of ns) (n .0) (n .1)
 
--- own number, time, high, marks, barrier, waiting; of the new make
+-- own number, time, high, marks, barrier, waiting; floor 0, of the new make
 abbrev pub panelOf : ℕ → ℕ → ℕ → List ℕ → List ℕ → List Message → Panel
 panelOf own time high marks barrier waiting =
-    record { own = own; time = time; high = high; marks = marks; barrier = barrier; waiting = waiting; make = newMake }
+    record { own = own; time = time; high = high; marks = marks; barrier = barrier; waiting = waiting; floor = 0; make = newMake }
+
+-- the record with another floor
+abbrev pub withFloor : ℕ → Panel → Panel
+withFloor floor p =
+    record {
+      own = p .own;
+      time = p .time;
+      high = p .high;
+      marks = p .marks;
+      barrier = p .barrier;
+      waiting = p .waiting;
+      floor = floor;
+      make = p .make;
+    }
 
 -- the buffers as they are lent
 abbrev pub output : List ℕ
@@ -89,6 +103,10 @@ sent panel records frame =
 -- a receive or a clock call gave this record and these log records
 abbrev pub taken : Panel → List (List ℕ) → Result
 taken panel records = record { number = 0; panel = panel; count = length records; output = outputWith records; frameLength = 0; buffer = [] }
+
+-- a set-back call gave this record
+abbrev pub setBackTo : Panel → Result
+setBackTo panel = record { number = 0; panel = panel; count = 0; output = []; frameLength = 0; buffer = [] }
 
 -- a call with these lent buffers was refused with that number
 abbrev pub refusedWith : ℕ → Panel → List ℕ → List ℕ → Result

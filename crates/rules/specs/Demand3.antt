@@ -6,7 +6,8 @@ use mathlib.Core.Path.{_≡_}
 use mathlib.Core.Logic.{_↔_, _⊎_}
 use mathlib.Core.List.{List, [], _∷_}
 use Rattle.rules.specs.Panel.{Name}
-use Rattle.rules.specs.Lists.{_isIn_, Made, sentAt, takenAt, logAt, LapsedAt, sends, Before, AllPromised}
+use Rattle.rules.specs.Lists.{_isIn_, Made, sentAt, logAt, sends, Before, AllPromised}
+use Rattle.rules.specs.Lapsing.{takenAt, LapsedAt}
 
 -- x stands ahead of y
 abbrev pub Ahead : Name → Name → List Name → Type 0

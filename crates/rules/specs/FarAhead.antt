@@ -11,7 +11,7 @@ use Rattle.frame.specs.Reading.{refusal, messageIn}
 use Rattle.rules.specs.Sizes.{width, lastDeadline}
 use Rattle.rules.specs.Panel.{Panel, lapsed}
 use Rattle.rules.specs.Refusals.{farthestAhead}
-use Rattle.rules.specs.Results.{Call, send, receive, clock, effectOf, defined}
+use Rattle.rules.specs.Results.{Call, send, receive, clock, setBack, effectOf, defined}
 use Rattle.rules.specs.Lists.{_isIn_}
 
 -- at any panel
@@ -23,9 +23,10 @@ pub record FarAhead (p : Panel) : Type 0 where
       → (refusal width bytes ≡ 0) × (p .time + farthestAhead < messageIn width bytes .deadline)
   -- "Taken without wrapping": within 14 days of the last deadline nothing is refused with 32.
   pub never-late : (bytes output : List ℕ) → Bytes bytes → lastDeadline ≤ p .time + farthestAhead → defined p (receive bytes output) .number ≢ 32
-  -- "A send may still pass that distance": neither a send nor a clock call is ever refused with 32.
+  -- "A send may still pass that distance": neither a send nor a clock call is ever refused with 32, nor is the service call.
   pub send-never : (payload : List ℕ) (lifetime : ℕ) (output buffer : List ℕ) → defined p (send payload lifetime output buffer) .number ≢ 32
   pub clock-never : (time : ℕ) (output : List ℕ) → defined p (clock time output) .number ≢ 32
+  pub set-back-never : (reading : ℕ) → defined p (setBack reading) .number ≢ 32
   -- "Messages already waiting or logged stay": whatever its deadline, one that waits does so in the record that any call gives back, refused or
   -- not, or was handed by it, or has lapsed; and no mark falls.
   pub waiting-stays : (call : Call) (w : Message) → w isIn p .waiting

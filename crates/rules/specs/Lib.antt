@@ -1,6 +1,6 @@
--- Document 01, in its order: the panel record and its rules, the three calls, what is turned down, what each call gives; the visits of the test
--- for ready, and traces (document 02); the words of demand 3, the statement that is proved of them; what is shown of deadlines far ahead
--- (document 02); and the cases.
+-- Document 01, in its order, with what document 02 changes and adds: the panel record and its rules, the calls, what is turned down, what each
+-- call gives; the visits of the test for ready, and traces; the words of demand 3, the statement that is proved of them; what is shown of
+-- deadlines far ahead; and the cases.
 --
 -- How to read it. `f : A → B` names a function, and the lines below it say what it gives. `x ∷ xs` is the list xs with x in front, `[]` the empty
 -- one, `xs ++ ys` one list behind the other; `getD xs n 0` is what stands at place n, counted from 0, or 0 past the end; `set xs n y` has y there
@@ -17,9 +17,11 @@ pub mod Refusals
 pub mod Results
 pub mod Visiting
 pub mod Lists
+pub mod Lapsing
 pub mod Demand3
 pub mod FarAhead
 pub mod Cases
 pub mod FarAheadCases
 pub mod BarrierCases
+pub mod FloorCases
 pub mod BenchCases

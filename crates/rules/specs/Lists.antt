@@ -1,5 +1,5 @@
--- Document 01, "The words of demand 3". Each word is a function of a list of calls.
-use Prim.Native.Nat.{ℕ, zero, suc, _<_}
+-- Document 01, "The words of demand 3". Each word is a function of a list of calls. (Those that W-207 of document 02 changes stand in `Lapsing`.)
+use Prim.Native.Nat.{ℕ, zero, suc, min}
 use mathlib.Core.Path.{_≡_}
 use mathlib.Core.Logic.{_⊎_, _≢_}
 use mathlib.Core.Bool.{Bool, cond}
@@ -10,7 +10,7 @@ use Rattle.numbers.specs.Numbers.{Bytes, numberAt}
 use Rattle.frame.specs.Reading.{messageIn}
 use Rattle.rules.specs.Sizes.{width, logRecordLength}
 use Rattle.rules.specs.Panel.{Name, nameOf, Make, Panel, fresh, ofMake}
-use Rattle.rules.specs.Results.{Call, send, receive, clock, Result, Promised}
+use Rattle.rules.specs.Results.{Call, send, receive, clock, setBack, Result, Promised}
 
 -- x is an element of the list
 infix 4 _isIn_
@@ -45,19 +45,21 @@ recordAt panel (made ∷ earlier) = cond (on panel made) (made .result .panel) (
 abbrev pub givenTo : ℕ → Make → List Made → Panel
 givenTo panel make earlier = ofMake make (recordAt panel earlier)
 
--- ---- sent, taken
+-- ---- frames sent and taken
 
 -- the frame that a call wrote: that of a send that was not refused
 unfoldable pub framesSent : Call → Result → List (List ℕ)
 framesSent (send payload lifetime output buffer) result = ifDone result (take (result .frameLength) (result .buffer) ∷ []) []
 framesSent (receive bytes output) result = []
 framesSent (clock time output) result = []
+framesSent (setBack reading) result = []
 
 -- the frame that a call took: that of a receive that was not refused
 unfoldable pub framesTaken : Call → Result → List (List ℕ)
 framesTaken (send payload lifetime output buffer) result = []
 framesTaken (receive bytes output) result = ifDone result (bytes ∷ []) []
 framesTaken (clock time output) result = []
+framesTaken (setBack reading) result = []
 
 -- the message of a frame: its source and deadline
 abbrev pub nameIn : List ℕ → Name
@@ -67,11 +69,6 @@ nameIn frame = nameOf (messageIn width frame)
 unfoldable pub sentAt : ℕ → List Made → List Name
 sentAt panel [] = []
 sentAt panel (made ∷ earlier) = cond (on panel made) (map nameIn (framesSent (made .call) (made .result))) [] ++ sentAt panel earlier
-
--- Taken at a panel: a receive of the message's frame there was not refused.
-unfoldable pub takenAt : ℕ → List Made → List Name
-takenAt panel [] = []
-takenAt panel (made ∷ earlier) = cond (on panel made) (map nameIn (framesTaken (made .call) (made .result))) [] ++ takenAt panel earlier
 
 -- ---- a panel's log
 
@@ -93,15 +90,13 @@ unfoldable pub timeAfter : ℕ → Call → Result → ℕ
 timeAfter before (send payload lifetime output buffer) result = before
 timeAfter before (receive bytes output) result = before
 timeAfter before (clock time output) result = ifDone result time before
+timeAfter before (setBack reading) result = ifDone result (min before reading) before
 
--- A panel's time: the last reading that a clock call there did not refuse, before any such call 0.
+-- A panel's time: the last reading that a clock call there did not refuse, before any such call 0; lowered by the set-back calls there
+-- (document 02, W-207).
 unfoldable pub timeAt : ℕ → List Made → ℕ
 timeAt panel [] = 0
 timeAt panel (made ∷ earlier) = cond (on panel made) (timeAfter (timeAt panel earlier) (made .call) (made .result)) (timeAt panel earlier)
-
--- Lapsed at a panel is lapsed by that time.
-abbrev pub LapsedAt : ℕ → List Made → Name → Type 0
-LapsedAt panel list n = n .deadline < timeAt panel list
 
 -- ---- before in cause
 
@@ -129,6 +124,7 @@ unfoldable pub Given : List Sent → Call → Result → Type 0
 Given sent (send payload lifetime output buffer) result = Bytes payload
 Given sent (receive bytes output) result = ((s : Sent) × (s isIn sent) × (s .frame ≡ bytes)) ⊎ (result .number ≢ 0)
 Given sent (clock time output) result = Unit {0}
+Given sent (setBack reading) result = Unit {0}
 
 -- Each call of a list was given what demand 3 allows; the list may be empty.
 abbrev pub Lawful : List Made → Type 0

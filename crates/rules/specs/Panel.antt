@@ -1,4 +1,4 @@
--- Document 01, "The panel record": the record, a fresh panel, lapsed, ready.
+-- Document 01, "The panel record", and document 02, W-207: the record, a fresh panel, lapsed, ready.
 use Prim.Native.Nat.{ℕ, zero, suc}
 use mathlib.Core.Bool.{Bool, true, _&&_, _||_}
 use mathlib.Core.List.{List, []}
@@ -20,8 +20,9 @@ pub data Make : Type 0 where
   newMake : Make
 
 -- Own number; time; high; 64 marks; 64 barrier entries; up to 32 waiting messages in the order taken, each with the fields and payload of its
--- frame. A mark is the largest deadline in this panel's log from that source; 0 means none. A barrier entry of 0 means that the source has no
--- entry. (In the field's terms: the marks are the registry of what was delivered, the barrier is the causal barrier, waiting is pending.)
+-- frame; floor. A mark is the largest deadline in this panel's log from that source; 0 means none. A barrier entry of 0 means that the source has
+-- no entry. (In the field's terms: the marks are the registry of what was delivered, the barrier is the causal barrier, waiting is pending.)
+-- Messages of a deadline at most the floor count as lapsed, whatever the time: the log may have gone without them.
 -- Beside them stands the make of the panel that works on the record, as handing goes by it. (It is in no byte: the module's panels are of the
 -- new make.)
 pub record Panel : Type 0 where
@@ -31,25 +32,40 @@ pub record Panel : Type 0 where
   pub marks : List ℕ
   pub barrier : List ℕ
   pub waiting : List Message
+  pub floor : ℕ
   pub make : Make
 
 -- 64 marks or barrier entries, all 0
 unfoldable pub none64 : List ℕ
 none64 = replicate 64 0
 
--- A fresh panel has time 0, high 0, all marks and barrier entries 0, and nothing waiting. (Its make is the module's; in a list each call brings
--- that of its panel.)
+-- A fresh panel has time 0, high 0, all marks and barrier entries 0, nothing waiting, and floor 0. (Its make is the module's; in a list each call
+-- brings that of its panel.)
 unfoldable pub fresh : ℕ → Panel
-fresh own = record { own = own; time = 0; high = 0; marks = none64; barrier = none64; waiting = []; make = newMake }
+fresh own = record { own = own; time = 0; high = 0; marks = none64; barrier = none64; waiting = []; floor = 0; make = newMake }
 
 -- the record, as a panel of that make works on it
 abbrev pub ofMake : Make → Panel → Panel
 ofMake make p =
-    record { own = p .own; time = p .time; high = p .high; marks = p .marks; barrier = p .barrier; waiting = p .waiting; make = make }
+    record {
+      own = p .own;
+      time = p .time;
+      high = p .high;
+      marks = p .marks;
+      barrier = p .barrier;
+      waiting = p .waiting;
+      floor = p .floor;
+      make = make;
+    }
 
--- Lapsed: deadline below the panel's time. A deadline equal to the time is alive.
+-- Document 02, W-207: "Lapsed now means a deadline below the time or at most the floor." One that is equal to the time, and above the floor, is
+-- alive.
+unfoldable pub hasLapsed : ℕ → ℕ → ℕ → Bool
+hasLapsed time floor deadline = ltb deadline time || leb deadline floor
+
+-- at a panel, it is by its time and its floor
 unfoldable pub lapsed : Panel → ℕ → Bool
-lapsed p deadline = ltb deadline (p .time)
+lapsed p deadline = hasLapsed (p .time) (p .floor) deadline
 
 -- an entry is met: the mark of its panel is at least the entry, or the entry has lapsed
 unfoldable pub met : Panel → ℕ → ℕ → Bool

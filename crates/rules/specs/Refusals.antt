@@ -1,4 +1,4 @@
--- Document 01, "Turned down because of the input", "Turned down because of the state", and their order; document 02, W-205.
+-- Document 01, "Turned down because of the input", "Turned down because of the state", and their order; document 02, W-205 and W-207.
 use Prim.Native.Nat.{ℕ, _+_}
 use mathlib.Core.Path.{_≡_}
 use mathlib.Core.Logic.{_⊎_}
@@ -94,6 +94,10 @@ clockChecks p time output =
     ∷ (ltb (length output) outputLength, 10)
     ∷ (ltb time (p .time), 25)  -- the clock reading is below the panel's time
     ∷ []
+
+-- Set back: 26. (Document 02, W-207: "The service call answers 26 as the others do.")
+unfoldable pub setBackChecks : Panel → List (Bool × ℕ)
+setBackChecks p = (broken p, 26) ∷ []
 
 -- the numbers of document 01's two lists, 1 to 11 and 20 to 26, and 32 of document 02
 abbrev pub isRefusal : ℕ → Bool

@@ -12,8 +12,8 @@ use Rattle.rules.specs.Sizes.{width}
 use Rattle.rules.specs.Panel.{Panel}
 use Rattle.rules.specs.Handing.{logRecords}
 use Rattle.rules.specs.Settling.{Settled}
-use Rattle.rules.specs.Calls.{newMessage, sending, receiving, clocking}
-use Rattle.rules.specs.Refusals.{sendChecks, receiveChecks, clockChecks}
+use Rattle.rules.specs.Calls.{newMessage, sending, receiving, clocking, settingBack}
+use Rattle.rules.specs.Refusals.{sendChecks, receiveChecks, clockChecks, setBackChecks}
 
 -- ---- calls
 
@@ -22,35 +22,41 @@ pub data Call : Type 0 where
   send : (payload : List ℕ) (lifetime : ℕ) (output buffer : List ℕ) → Call
   receive : (bytes output : List ℕ) → Call
   clock : (time : ℕ) (output : List ℕ) → Call
+  setBack : (reading : ℕ) → Call
 
--- the buffers lent to it; a receive and a clock call have no frame buffer
+-- the buffers lent to it; a receive and a clock call have no frame buffer, the service call has none at all
 abbrev pub outputOf : Call → List ℕ
 outputOf (send payload lifetime output buffer) = output
 outputOf (receive bytes output) = output
 outputOf (clock time output) = output
+outputOf (setBack reading) = []
 
 abbrev pub bufferOf : Call → List ℕ
 bufferOf (send payload lifetime output buffer) = buffer
 bufferOf (receive bytes output) = []
 bufferOf (clock time output) = []
+bufferOf (setBack reading) = []
 
 -- its checks
 abbrev pub checksOf : Panel → Call → List (Bool × ℕ)
 checksOf p (send payload lifetime output buffer) = sendChecks p payload lifetime output buffer
 checksOf p (receive bytes output) = receiveChecks p bytes output
 checksOf p (clock time output) = clockChecks p time output
+checksOf p (setBack reading) = setBackChecks p
 
 -- what it does to the record, and which messages it hands
 abbrev pub effectOf : Panel → Call → Settled
 effectOf p (send payload lifetime output buffer) = sending p payload lifetime
 effectOf p (receive bytes output) = receiving p (messageIn width bytes)
 effectOf p (clock time output) = clocking p time
+effectOf p (setBack reading) = settingBack p reading
 
 -- the frame that it writes: that of a send
 abbrev pub frameOf : Panel → Call → List ℕ
 frameOf p (send payload lifetime output buffer) = frame width (newMessage p payload lifetime)
 frameOf p (receive bytes output) = []
 frameOf p (clock time output) = []
+frameOf p (setBack reading) = []
 
 -- ---- results
 

@@ -31,7 +31,17 @@ without place ms = take place ms ++ drop (suc place) ms
 
 -- the record with another waiting list
 abbrev pub withWaiting : Panel → List Message → Panel
-withWaiting p ms = record { own = p .own; time = p .time; high = p .high; marks = p .marks; barrier = p .barrier; waiting = ms; make = p .make }
+withWaiting p ms =
+    record {
+      own = p .own;
+      time = p .time;
+      high = p .high;
+      marks = p .marks;
+      barrier = p .barrier;
+      waiting = ms;
+      floor = p .floor;
+      make = p .make;
+    }
 
 -- a record, and the messages that were handed on the way to it, in order
 pub record Settled : Type 0 where

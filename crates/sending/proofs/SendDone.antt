@@ -3,7 +3,7 @@ use mathlib.Core.Path.{_≡_, refl, sym, ap, _∙_}
 use mathlib.Core.List.{List, [], _∷_, append-nil}
 use Prim.Native.Nat.{ℕ, _≤_, max}
 use native.Mathlib.Omega.{arith}
-use lib.ListN.{length, length-append}
+use lib.ListN.{length, getD, length-append}
 use Rattle.numbers.specs.Numbers.{Bytes}
 use Rattle.numbers.specs.Buffer.{over}
 use Rattle.frame.specs.Message.{Message}
@@ -17,13 +17,12 @@ use Rattle.frame.proofs.Theorems.{frame-size}
 use Rattle.writing.specs.Written.{written, writtenLength}
 use Rattle.writing.proofs.Written.{written-frame}
 use Rattle.rules.specs.Sizes.{width}
-use Rattle.rules.specs.Panel.{Panel as Record, newMake, none64}
-use Rattle.rules.specs.Handing.{raise, barrierFor, hand, logRecord, logRecords}
-use Rattle.rules.specs.Settling.{settle}
+use Rattle.rules.specs.Panel.{Panel as Record, none64}
+use Rattle.rules.specs.Handing.{raise, shortened, barrierFor, missed, hand, logRecord, logRecords}
+use Rattle.rules.specs.Settling.{withWaiting, settle}
 use Rattle.rules.specs.Calls.{sendDeadline, newMessage, emptied, handAndSettle, sending}
 use Rattle.rules.specs.Refusals.{broken, sendChecks}
 use Rattle.rules.specs.Results.{Promised, send}
-use Rattle.rules.proofs.Shortened.{shortened-none64}
 use Rattle.rules.proofs.Checks.{SendPassed, send-passed, new-readable}
 use Rattle.rules.proofs.LogRecords.{length-logRecord}
 use Rattle.slots.specs.Slots.{Reads, Kept, firstSlots}
@@ -74,38 +73,29 @@ module _ {p : Parts} {payload : List ℕ} {lifetime : ℕ} {output buffer : List
 
   -- ---- it is handed with an empty barrier, and the record settles
 
+  -- the floor, risen by the entries of a message
+  abbrev risen : Message → ℕ
+  risen m = max (p .floor) (missed (p .time) (p .floor) (λ panel. getD (p .marks) panel 0) (m .entries))
+
   abbrev pub handedStage : Stage
   handedStage =
-      stage (record { own = p .own; time = p .time; high = max (p .high) (new .deadline); waiting = p .count; handed = 1 }) (firstSlots 32)
-      (raise (p .marks) new) (raise none64 new) (over output 0 (logRecord new))
+      stage
+      (record { own = p .own; time = p .time; high = max (p .high) (new .deadline); waiting = p .count; handed = 1; floor = risen new })
+      (firstSlots 32) (raise (p .marks) new) (raise (shortened none64 (new .entries)) new) (over output 0 (logRecord new))
 
-  pub stage-handed : (part : List ℕ) → part ≡ frame width new → (high : ℕ) (places marks′ barrier′ written : List ℕ)
+  pub stage-handed : (part : List ℕ) → part ≡ frame width new → (high floor : ℕ) (places marks′ barrier′ output′ : List ℕ)
       → high ≡ max (p .high) (messageIn width part .deadline) → places ≡ firstSlots 32
-      → marks′ ≡ raise (p .marks) (messageIn width part) → barrier′ ≡ raise none64 (messageIn width part)
-      → written ≡ over output 0 (logRecord (messageIn width part))
-      → stage (record { own = p .own; time = p .time; high = high; waiting = p .count; handed = 1 }) places marks′ barrier′ written ≡ handedStage
-  stage-handed part is high places marks′ barrier′ written e ep em eb eo =
+      → marks′ ≡ raise (p .marks) (messageIn width part) → barrier′ ≡ raise (shortened none64 (messageIn width part .entries)) (messageIn width part)
+      → output′ ≡ over output 0 (logRecord (messageIn width part)) → floor ≡ risen (messageIn width part)
+      → stage (record { own = p .own; time = p .time; high = high; waiting = p .count; handed = 1; floor = floor }) places marks′ barrier′ output′
+      ≡ handedStage
+  stage-handed part is high floor places marks′ barrier′ output′ e ep em eb eo ef =
       let message : messageIn width part ≡ new = ap (messageIn width) is ∙ frame-message width new (omega arith, omega arith) readable in
-      rw (e, ep, em, eb, eo, message)
-
-  -- of the empty barrier nothing is removed
-  abbrev handedWith : List Message → List ℕ → Record
-  handedWith waiting barrier =
-      record {
-        own = p .own;
-        time = p .time;
-        high = max (p .high) (new .deadline);
-        marks = raise (p .marks) new;
-        barrier = raise barrier new;
-        waiting = waiting;
-        make = newMake;
-      }
+      rw (e, ep, em, eb, eo, ef, message)
 
   panel-handed : Kept (p .slots) (p .count) → panelAt (p .slots) handedStage ≡ hand (emptied given) new
   unfolding hand barrierFor
-  panel-handed kept =
-      ap (λ (ms : List Message). handedWith ms none64) (held-order (p .slots) (p .count) (kept .few))
-      ∙ ap (handedWith (given .waiting)) (sym (shortened-none64 (new .entries)))
+  panel-handed kept = ap (withWaiting (hand (emptied given) new)) (held-order (p .slots) (p .count) (kept .few))
 
   pub sent-done : Kept (p .slots) (p .count) → (slots′ : List ℕ) (after : Stage) (back : Record) → SettlesSlots (p .slots) handedStage slots′ after
       → back ≡ settle (panelAt (p .slots) handedStage) .panel

@@ -1,8 +1,8 @@
-// Send, in place on a lent record. Of the record it may touch high, count, marks, barrier and slots,
-// and beside it the output and the frame buffer; own number and time it only reads. It accepts any
+// Send, in place on a lent record. Of the record it may touch high, count, marks, barrier, slots and
+// floor, and beside it the output and the frame buffer; own number and time it only reads. It accepts any
 // input, and what it promises is document 01's send, for every argument. An internal crate: `exports`,
 // `beacon` and `by_value` have the public calls.
-use handing::put_in_log;
+use handing::hand;
 use lifetimes::send_deadline;
 use parts::Answer;
 use parts::broken;
@@ -46,15 +46,16 @@ pub fn send_in_place(
     marks: &mut [u32; 64],
     barrier: &mut [u32; 64],
     slots: &mut [u8; 9888],
+    floor: &mut u32,
     payload: &[u8],
     lifetime: u16,
     output: &mut [u8],
     buffer: &mut [u8],
 ) -> Answer
     ensures { λ r. ⌜ PromisedInPlace
-        (parts own time (now (high .entry)) (now (count .entry)) (now (marks .entry)) (now (barrier .entry)) (now (slots .entry)))
+        (parts own time (now (high .entry)) (now (count .entry)) (now (marks .entry)) (now (barrier .entry)) (now (slots .entry)) (now (floor .entry)))
         (send (now (payload .entry)) lifetime (now (output .entry)) (now (buffer .entry))) r
-        (parts own time (now (high .exit)) (now (count .exit)) (now (marks .exit)) (now (barrier .exit)) (now (slots .exit)))
+        (parts own time (now (high .exit)) (now (count .exit)) (now (marks .exit)) (now (barrier .exit)) (now (slots .exit)) (now (floor .exit)))
         (now (output .exit)) (now (buffer .exit)) ⌝ }
 {
     let broken = broken(own, *high, *count, marks, barrier, slots);
@@ -70,7 +71,9 @@ pub fn send_in_place(
     let length = write(own, deadline as u32, barrier, payload, buffer);
     *barrier = [0u32; 64];
     let frame = &buffer[0..length];
-    *high = put_in_log(*high, 0, marks, barrier, frame, output);
+    let raised = hand(time, *high, *floor, 0, marks, barrier, frame, output);
+    *high = raised.high;
+    *floor = raised.floor;
     let places = in_order();
     let mut handed = 1;
     *count = settle_slots(
@@ -79,6 +82,7 @@ pub fn send_in_place(
         high,
         *count,
         &mut handed,
+        floor,
         places,
         marks,
         barrier,

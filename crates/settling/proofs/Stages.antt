@@ -13,7 +13,7 @@ use Rattle.frame.specs.Message.{Message, messageOf}
 use Rattle.frame.specs.Reading.{messageIn}
 use Rattle.rules.specs.Sizes.{width, logRecordLength}
 use Rattle.rules.specs.Panel.{Panel}
-use Rattle.rules.specs.Handing.{raise, shortened, barrierFor, hand, logRecord, logRecords}
+use Rattle.rules.specs.Handing.{raise, shortened, barrierFor, missed, hand, logRecord, logRecords}
 use Rattle.rules.specs.Settling.{choice, without, withWaiting, waitingAt, Settled, goOn, settle}
 use Rattle.rules.proofs.Choice.{choice-some}
 use Rattle.rules.proofs.Settling.{settle-step}
@@ -30,8 +30,9 @@ use Rattle.settling.proofs.Leaving.{take-leaves, listed-leaves, held-wi
 -- ---- one is handed
 
 -- a message that has left the list was handed
-abbrev pub oneHanded : Settling → ℕ → Settling
-oneHanded s high = record { own = s .own; time = s .time; high = high; waiting = s .waiting - 1; handed = s .handed + 1 }
+abbrev pub oneHanded : Settling → ℕ → ℕ → Settling
+oneHanded s high floor =
+    record { own = s .own; time = s .time; high = high; waiting = s .waiting - 1; handed = s .handed + 1; floor = floor }
 
 -- the record once the message at a place has left the list and was handed
 abbrev handedFrom : Panel → ℕ → Panel
@@ -63,8 +64,12 @@ module _ (slots : List ℕ) (place : ℕ) (s : Settling) (places rest marks barr
   it : waitingAt (panelAt slots before) place ≡ m
   it = held-at slots (s .waiting) places place (messageOf 0 0 [] []) listed (omega (arith, listed .few)) lt ∙ is
 
+  -- the floor, risen by the entries of the message
+  abbrev risen : ℕ
+  risen = max (s .floor) (missed (s .time) (s .floor) (λ panel. getD marks panel 0) (m .entries))
+
   handed-one : HandedAt slots place before
-      (stage (oneHanded s (max (s .high) (m .deadline))) rest (raise marks m) (raise (shortened barrier (m .entries)) m) (over output (outputPlace s) (logRecord m)))
+      (stage (oneHanded s (max (s .high) (m .deadline)) risen) rest (raise marks m) (raise (shortened barrier (m .entries)) m) (over output (outputPlace s) (logRecord m)))
   unfolding hand barrierFor
   handed-one =
       record {
@@ -75,10 +80,10 @@ module _ (slots : List ℕ) (place : ℕ) (s : Settling) (places rest marks barr
         long = leaves .long;
       }
 
-  pub handed-at : (high : ℕ) (marksAfter barrierAfter outputAfter : List ℕ) → high ≡ max (s .high) (m .deadline) → marksAfter ≡ raise marks m
-      → barrierAfter ≡ raise (shortened barrier (m .entries)) m → outputAfter ≡ over output (outputPlace s) (logRecord m)
-      → HandedAt slots place before (stage (oneHanded s high) rest marksAfter barrierAfter outputAfter)
-  handed-at high marksAfter barrierAfter outputAfter e em eb eo = rw (e, em, eb, eo) handed-one
+  pub handed-at : (high floor : ℕ) (marksAfter barrierAfter outputAfter : List ℕ) → high ≡ max (s .high) (m .deadline) → marksAfter ≡ raise marks m
+      → barrierAfter ≡ raise (shortened barrier (m .entries)) m → outputAfter ≡ over output (outputPlace s) (logRecord m) → floor ≡ risen
+      → HandedAt slots place before (stage (oneHanded s high floor) rest marksAfter barrierAfter outputAfter)
+  handed-at high floor marksAfter barrierAfter outputAfter e em eb eo ef = rw (e, em, eb, eo, ef) handed-one
 
 -- ---- a step of settling
 
@@ -139,7 +144,7 @@ module _ (slots : List ℕ) (s : Stage) where
 -- a step as the code takes it, from what `choice` found
 module _ (slots : List ℕ) (s : Stage) (listed : Listed slots (s .left .waiting) (s .places))
     (long : length (s .places) ≡ 32) (first : First)
-    (is : first ≡ firstIn (panelAt slots s .waiting) (choice (asking (s .marks) (s .left .time)) (panelAt slots s .waiting))) where
+    (is : first ≡ firstIn (panelAt slots s .waiting) (choice (asking (s .marks) (s .left .time) (s .left .floor)) (panelAt slots s .waiting))) where
   pub settles-none : first .found ≡ false → Settles slots s s
   settles-none e = settles-end slots s listed (firstIn-none (panelAt slots s) (panelAt slots s .waiting) first is e)
 

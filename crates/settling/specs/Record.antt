@@ -23,8 +23,8 @@ pub record Stage : Type 0 where
   pub output : List ℕ
 
 -- what is left, of these numbers
-abbrev pub left : ℕ → ℕ → ℕ → ℕ → ℕ → Settling
-left own time high waiting handed = record { own = own; time = time; high = high; waiting = waiting; handed = handed }
+abbrev pub left : ℕ → ℕ → ℕ → ℕ → ℕ → ℕ → Settling
+left own time high waiting handed floor = record { own = own; time = time; high = high; waiting = waiting; handed = handed; floor = floor }
 
 abbrev pub stage : Settling → List ℕ → List ℕ → List ℕ → List ℕ → Stage
 stage left places marks barrier output = record { left = left; places = places; marks = marks; barrier = barrier; output = output }
@@ -39,6 +39,7 @@ panelAt slots s =
       marks = s .marks;
       barrier = s .barrier;
       waiting = held slots (take (s .left .waiting) (s .places));
+      floor = s .left .floor;
       make = newMake;
     }
 

@@ -19,6 +19,7 @@ pub struct Settling {
     pub high: u32,
     pub waiting: usize,
     pub handed: usize,
+    pub floor: u32,
 }
 
 // The slot at that place leaves the list, and is the answer; those behind it move up.
@@ -45,6 +46,7 @@ pub fn settle(
     high: &mut u32,
     waiting: usize,
     handed: &mut usize,
+    floor: &mut u32,
     places: &mut [u8; 32],
     marks: &mut [u32; 64],
     barrier: &mut [u32; 64],
@@ -54,22 +56,26 @@ pub fn settle(
     requires { ⌜ Slots (now slots) × Listed (now slots) waiting (now places) × (length (now places) ≡ 32) ⌝ }
     requires { ⌜ (now handed + waiting) * 38 ≤ length (now output) ⌝ }
     ensures { λ r. ⌜ Settles (now (slots .entry))
-        (stage (left own time (now (high .entry)) waiting (now (handed .entry))) (now (places .entry)) (now (marks .entry)) (now (barrier .entry)) (now (output .entry)))
-        (stage (left own time (now (high .exit)) r (now (handed .exit))) (now (places .exit)) (now (marks .exit)) (now (barrier .exit)) (now (output .exit))) ⌝ }
+        (stage (left own time (now (high .entry)) waiting (now (handed .entry)) (now (floor .entry))) (now (places .entry)) (now (marks .entry)) (now (barrier .entry)) (now (output .entry)))
+        (stage (left own time (now (high .exit)) r (now (handed .exit)) (now (floor .exit))) (now (places .exit)) (now (marks .exit)) (now (barrier .exit)) (now (output .exit))) ⌝ }
 {
-    let next = choice(waiting, places, marks, time, slots);
+    let next = choice(waiting, places, marks, time, *floor, slots);
     if !next.found {
         return waiting;
     }
     let slot = leave(places, waiting, next.place) as usize;
-    *high = hand(
+    let raised = hand(
+        time,
         *high,
+        *floor,
         *handed,
         marks,
         barrier,
         kept_frame(slots, slot),
         output,
     );
+    *high = raised.high;
+    *floor = raised.floor;
     *handed += 1;
     settle(
         own,
@@ -77,6 +83,7 @@ pub fn settle(
         high,
         waiting - 1,
         handed,
+        floor,
         places,
         marks,
         barrier,

@@ -9,6 +9,6 @@ use Rattle.slots.specs.Slots.{Listed, held, firstSlots}
 use Rattle.slots.specs.declared.Places.{Places}
 
 -- the slots of the messages that have not lapsed, among the first
-pub record Alive (slots : List ℕ) (count time : ℕ) (places : Places) : Type 0 where
+pub record Alive (slots : List ℕ) (count time floor : ℕ) (places : Places) : Type 0 where
   pub listed : Listed slots (places .count) (places .slots)
-  pub messages : (p : Panel) → p .time ≡ time → held slots (take (places .count) (places .slots)) ≡ alive p (held slots (firstSlots count))
+  pub messages : (p : Panel) → p .time ≡ time → p .floor ≡ floor → held slots (take (places .count) (places .slots)) ≡ alive p (held slots (firstSlots count))

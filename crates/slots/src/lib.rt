@@ -7,6 +7,7 @@ ghost use mathlib.Core.Bool.{_&&_};
 ghost use Prim.Native.Nat.{_<_};
 ghost use lib.Dec.{eqb};
 ghost use Rattle.frame.specs.Reading.{messageIn};
+ghost use Rattle.rules.specs.Panel.{hasLapsed};
 ghost use Rattle.rules.specs.Refusals.{isWaiting as waits};
 ghost use Rattle.slots.specs.Slots.{Reads, Slots, Fits, Kept, firstSlots, held};
 ghost use Rattle.slots.specs.Slots.{frameAt as frameIn};
@@ -73,16 +74,27 @@ pub fn is_waiting<'a, 'b>(frame: &'a [u8], slots: &'b [u8], count: usize) -> boo
     false
 }
 
-// Those of the first slots whose messages have not lapsed at that time.
-pub fn alive(slots: &[u8], count: usize, time: u32) -> Places
+// Whether a deadline has lapsed at a panel of that time and floor: it is below the time, or at most the
+// floor. (Not below floor + 1: that sum could pass 32 bits.)
+pub fn has_lapsed(due: u32, time: u32, floor: u32) -> bool
+    ensures { λ r. ⌜ r ≡ hasLapsed time floor due ⌝ }
+{
+    if due < time {
+        return true;
+    }
+    due <= floor
+}
+
+// Those of the first slots whose messages have not lapsed at that time and floor.
+pub fn alive(slots: &[u8], count: usize, time: u32, floor: u32) -> Places
     requires { ⌜ Slots (now slots) × Kept (now slots) count ⌝ }
-    ensures { λ r. ⌜ Alive (now (slots .entry)) count time r ⌝ }
+    ensures { λ r. ⌜ Alive (now (slots .entry)) count time floor r ⌝ }
 {
     let mut places = [0u8; 32];
     let mut kept = 0;
     let mut slot = 0;
     while slot < count {
-        if time <= deadline(kept_frame(slots, slot)) {
+        if !has_lapsed(deadline(kept_frame(slots, slot)), time, floor) {
             places[kept] = slot as u8;
             kept += 1;
         }

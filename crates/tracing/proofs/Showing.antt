@@ -17,14 +17,14 @@ use Rattle.slots.specs.Slots.{Reads}
 use Rattle.choosing.specs.Choice.{asking}
 use Rattle.checking.proofs.MessageChecks.{ready-asking}
 
--- ---- the visits ask for the marks and the time alone
+-- ---- the visits ask for the marks, the time and the floor alone
 
-upToUnmet-asking : (p : Panel) (es : List Entry) → upToUnmet (asking (p .marks) (p .time)) es ≡ upToUnmet p es
+upToUnmet-asking : (p : Panel) (es : List Entry) → upToUnmet (asking (p .marks) (p .time) (p .floor)) es ≡ upToUnmet p es
 unfolding upToUnmet met lapsed
 upToUnmet-asking p [] = refl
 upToUnmet-asking p (e ∷ es) = ap (λ (l : List Entry). e ∷ cond (isMet p e) l []) (upToUnmet-asking p es)
 
-visits-asking : (p : Panel) (m : Message) → visits (asking (p .marks) (p .time)) m ≡ visits p m
+visits-asking : (p : Panel) (m : Message) → visits (asking (p .marks) (p .time) (p .floor)) m ≡ visits p m
 visits-asking p m = ap (λ (l : List Entry). length l) (upToUnmet-asking p (entriesOf m))
 
 module _ (p : Panel) (bytes : List ℕ) where
@@ -53,7 +53,7 @@ module _ (p : Panel) (bytes : List ℕ) where
     shown-unread unread = rw (reading-refused width bytes unread, first)
 
     -- they read, and their message was tested
-    pub shown-read : Reads bytes → (isReady : Bool) (visited : ℕ) → let asked = asking (p .marks) (p .time) in
+    pub shown-read : Reads bytes → (isReady : Bool) (visited : ℕ) → let asked = asking (p .marks) (p .time) (p .floor) in
         isReady ≡ ready asked (messageIn width bytes) → visited ≡ visits asked (messageIn width bytes)
         → record { number = number; ready = isReady; visited = visited } ≡ trace p bytes
     unfolding trace

@@ -41,10 +41,11 @@ pub extern "C" fn panel_trace_parts<'a, 'b>(
     marks: &'a [u32; 64],
     barrier: &'a [u32; 64],
     slots: &'a [u8; 9888],
+    floor: u32,
     frame: &'b [u8],
 ) -> Trace
     ensures { λ r. ⌜ shownIn r ≡ trace
-        (recordOf (parts own time high count (now (marks .entry)) (now (barrier .entry)) (now (slots .entry))))
+        (recordOf (parts own time high count (now (marks .entry)) (now (barrier .entry)) (now (slots .entry)) floor))
         (now (frame .entry)) ⌝ }
 {
     let broken = broken(own, high, count, marks, barrier, slots);
@@ -56,7 +57,7 @@ pub extern "C" fn panel_trace_parts<'a, 'b>(
             number: unread_number(broken, unread),
         };
     }
-    let tested = ready(frame, marks, time);
+    let tested = ready(frame, marks, time, floor);
     if broken {
         return Trace {
             visited: tested.visited,
@@ -67,6 +68,6 @@ pub extern "C" fn panel_trace_parts<'a, 'b>(
     Trace {
         visited: tested.visited,
         ready: tested.ready,
-        number: message_number(own, time, count, marks, slots, frame),
+        number: message_number(own, time, count, marks, slots, floor, frame),
     }
 }

@@ -19,7 +19,7 @@ start c = c .before .before .before
 
 -- the record, as far as the checks ask for it, and the message
 abbrev given : tie.After-early-number → Panel
-given c = let a = start c .args in recordOf (parts (a .own) (a .time) 0 (a .count) (now (a .marks)) [] (now (a .slots)))
+given c = let a = start c .args in recordOf (parts (a .own) (a .time) 0 (a .count) (now (a .marks)) [] (now (a .slots)) (a .floor))
 
 abbrev m : tie.After-early-number → Message
 m c = messageIn 4 (now (start c .args .frame))

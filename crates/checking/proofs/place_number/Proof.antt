@@ -13,7 +13,7 @@ use Rattle.checking.proofs.place_number.Tie as tie
 
 -- whether the message is ready
 abbrev isReady : tie.Start → Bool
-isReady c = ready (asking (now (c .args .marks)) (c .args .time)) (messageIn 4 (now (c .args .frame)))
+isReady c = ready (asking (now (c .args .marks)) (c .args .time) (c .args .floor)) (messageIn 4 (now (c .args .frame)))
 
 returns : tie.Need-returns
 returns c = let s = c .before .before in full-room (s .args .count) (isReady s) (omega (arith, c .if1 .taken))

@@ -22,7 +22,7 @@ start c = c .before .before .before .before .before .before .before
 -- the parts that were lent, and the record that they hold
 abbrev lent : tie.After-frame-number → Parts
 lent c =
-    let a = start c .args in parts (a .own) (a .time) (a .high) (a .count) (now (a .marks)) (now (a .barrier)) (now (a .slots))
+    let a = start c .args in parts (a .own) (a .time) (a .high) (a .count) (now (a .marks)) (now (a .barrier)) (now (a .slots)) (a .floor)
 
 abbrev given : tie.After-frame-number → Record
 given c = recordOf (lent c)
@@ -56,7 +56,7 @@ message-number-requires c κs =
 
 returns-2 : tie.Need-returns-2
 returns-2 c =
-    c .message-number .ensures ∙ ap firstOf (checks-asking _ _ _ _ _ _ _ _) ∙ frame-through _ _ _ (sym (framed (c .before .before)) ∙ c .before .if1 .left)
+    c .message-number .ensures ∙ ap firstOf (checks-asking _ _ _ _ _ _ _ _ _) ∙ frame-through _ _ _ (sym (framed (c .before .before)) ∙ c .before .if1 .left)
 
 pub receive-number-spec : {M : Type 1} → statement M
 receive-number-spec = tie.close (tie.spec broken-requires frame-number-requires returns message-number-requires returns-2)

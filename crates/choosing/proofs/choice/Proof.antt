@@ -12,11 +12,11 @@ use Rattle.choosing.proofs.choice.Statement.{statement}
 use Rattle.choosing.proofs.choice.Tie as tie
 
 abbrev Inv-loop : tie.InvT-loop
-Inv-loop waiting places marks time slots first₀ place₀ first place =
-    (place ≤ waiting) × (first ≡ firstBelow (asking marks time) (held slots (take waiting places)) place)
+Inv-loop waiting places marks time floor slots first₀ place₀ first place =
+    (place ≤ waiting) × (first ≡ firstBelow (asking marks time floor) (held slots (take waiting places)) place)
 
 abbrev μ-loop : tie.MeasureT-loop
-μ-loop waiting places marks time slots first₀ place₀ first place = waiting - place
+μ-loop waiting places marks time floor slots first₀ place₀ first place = waiting - place
 
 fits : (c : tie.Start Inv-loop μ-loop) → c .args .waiting ≤ length (c .args .places .now)
 fits c = omega (arith, c .pre .1 .few, c .pre .2)
@@ -24,7 +24,7 @@ fits c = omega (arith, c .pre .1 .few, c .pre .2)
 loop-holds : tie.Need-loop-holds Inv-loop μ-loop
 loop-holds c =
     let a = c .before .args in
-    (omega arith, sym (firstBelow-none (asking (a .marks .now) (a .time)) (held (a .slots .now) (take (a .waiting) (a .places .now)))))
+    (omega arith, sym (firstBelow-none (asking (a .marks .now) (a .time) (a .floor)) (held (a .slots .now) (take (a .waiting) (a .places .now)))))
 
 element-copy-out-slot : tie.Need-element-copy-out-slot Inv-loop μ-loop
 element-copy-out-slot c = omega (arith, c .before .before .before .pre .1 .few)
@@ -50,7 +50,7 @@ loop-again c =
     let a = s .args in
     let l = c .before .before .before .loop in
     let next =
-    firstBelow-listed (asking (a .marks .now) (a .time)) (a .slots .now) (a .waiting) (a .places .now) (l .place) (s .pre .1) (fits s) (omega arith)
+    firstBelow-listed (asking (a .marks .now) (a .time) (a .floor)) (a .slots .now) (a .waiting) (a .places .now) (l .place) (s .pre .1) (fits s) (omega arith)
     (l .first) (c .consider .result) (l .inv .1) (c .consider .ensures) in
     (omega arith, rw add-one next)
 

@@ -37,7 +37,7 @@ first-so-far c =
     (c .if1 .came)
 
 is-ready : (c : tie.After-ready) → let s = start (c .before .before) in
-    c .ready .result .ready ≡ ready (asking (s .args .marks .now) (s .args .time)) (m s)
+    c .ready .result .ready ≡ ready (asking (s .args .marks .now) (s .args .time) (s .args .floor)) (m s)
 is-ready c = rw (c .before .before .kept-frame .ensures) at (c .ready .ensures .0)
 
 kept-frame-requires : tie.Need-kept-frame-requires

@@ -18,10 +18,10 @@ use Rattle.choosing.proofs.ready.Statement.{statement}
 use Rattle.choosing.proofs.ready.Tie as tie
 
 abbrev Inv-loop : tie.InvT-loop
-Inv-loop frame marks time bits₀ visited₀ bits visited = MetBelow frame marks time bits visited
+Inv-loop frame marks time floor bits₀ visited₀ bits visited = MetBelow frame marks time floor bits visited
 
 abbrev μ-loop : tie.MeasureT-loop
-μ-loop frame marks time bits₀ visited₀ bits visited = bits
+μ-loop frame marks time floor bits₀ visited₀ bits visited = bits
 
 number-at-requires : tie.Need-number-at-requires Inv-loop μ-loop
 number-at-requires c κs = omega (arith, zero-passed 4 _ (c .before .pre) .long)
@@ -30,8 +30,8 @@ loop-holds : tie.Need-loop-holds Inv-loop μ-loop
 loop-holds c =
     let a = c .before .before .args in
     let mask = c .number-at .ensures .0 in
-    subst (λ (bits : ℕ). MetBelow (now (a .frame)) (now (a .marks)) (a .time) bits 0) (sym mask)
-    (met-start (now (a .frame)) (now (a .marks)) (a .time) (subst (λ (bits : ℕ). bits < 2 ^ 64) mask (c .number-at .ensures .1)))
+    subst (λ (bits : ℕ). MetBelow (now (a .frame)) (now (a .marks)) (a .time) (a .floor) bits 0) (sym mask)
+    (met-start (now (a .frame)) (now (a .marks)) (a .time) (a .floor) (subst (λ (bits : ℕ). bits < 2 ^ 64) mask (c .number-at .ensures .1)))
 
 -- in a turn the panel is one of 64, and its entry stands within the frame
 below : (c : tie.In-loop Inv-loop μ-loop) → next (c .before .loop .bits) < 64
@@ -70,15 +70,15 @@ is-met-requires c κs = tt
 -- the entry was read from its place, and tested beside the mark of its panel
 tested : (c : tie.After-is-met Inv-loop μ-loop) → let l = c .before .before .before .before .loop in
     let a = c .before .before .before .before .before .before .before .args in
-    metBy (getD (now (a .marks)) (next (l .bits)) 0) (a .time) (numberAt (now (a .frame)) (18 + 4 * l .visited) 4) ≡ c .is-met .result
+    metBy (getD (now (a .marks)) (next (l .bits)) 0) (a .time) (a .floor) (numberAt (now (a .frame)) (18 + 4 * l .visited) 4) ≡ c .is-met .result
 tested c = rw (← c .before .before .number-at2 .ensures .0) (sym (c .is-met .ensures))
 
 returns : tie.Need-returns Inv-loop μ-loop
 returns c =
     let turn = c .before .before .before .before in
     let unmet = tested (c .before) ∙ not-true _ (c .if1 .taken) in (
-      sym (stop-ready _ _ _ _ _ (turn .before .loop .inv) (turn .loop-test .taken) unmet),
-      stop-visits _ _ _ _ _ (turn .before .loop .inv) (turn .loop-test .taken) (turn .before .before .before .before .pre) unmet,
+      sym (stop-ready _ _ _ _ _ _ (turn .before .loop .inv) (turn .loop-test .taken) unmet),
+      stop-visits _ _ _ _ _ _ (turn .before .loop .inv) (turn .loop-test .taken) (turn .before .before .before .before .pre) unmet,
     )
 
 sub-bits : tie.Need-sub-bits Inv-loop μ-loop
@@ -93,12 +93,12 @@ loop-less c =
 loop-again : tie.Need-loop-again Inv-loop μ-loop
 loop-again c =
     let turn = c .before .before .before .before in
-    turn-on _ _ _ _ _ (turn .before .loop .inv) (turn .loop-test .taken) (tested (c .before) ∙ not-false _ (c .if1 .left))
+    turn-on _ _ _ _ _ _ (turn .before .loop .inv) (turn .loop-test .taken) (tested (c .before) ∙ not-false _ (c .if1 .left))
 
 returns-2 : tie.Need-returns-2 Inv-loop μ-loop
 returns-2 c = (
-  sym (end-ready _ _ _ _ _ (c .before .loop .inv) (c .loop-test .left)),
-  end-visits _ _ _ _ _ (c .before .loop .inv) (c .loop-test .left) (c .before .before .before .before .pre),
+  sym (end-ready _ _ _ _ _ _ (c .before .loop .inv) (c .loop-test .left)),
+  end-visits _ _ _ _ _ _ (c .before .loop .inv) (c .loop-test .left) (c .before .before .before .before .pre),
 )
 
 pub ready-spec : {M : Type 1} → statement M

@@ -26,7 +26,7 @@ start c = c .before .before .before .before .before .before .before .before .bef
 abbrev lent : tie.Start → Parts
 lent c =
     let a = c .args in
-    parts (a .own) (a .time .now) (a .high .now) (a .count .now) (a .marks .now) (a .barrier .now) (a .slots .now)
+    parts (a .own) (a .time .now) (a .high .now) (a .count .now) (a .marks .now) (a .barrier .now) (a .slots .now) (a .floor .now)
 
 abbrev given : tie.Start → Record
 given c = recordOf (lent c)
@@ -62,13 +62,13 @@ returns : tie.Need-returns
 returns c = refused-in-place (lent (start (c .before .before .before))) (clock _ _) _ (numbered (c .before)) (c .if1 .taken)
 
 alive-requires : tie.Need-alive-requires
-alive-requires c κs = (search needs, valid-kept (lent (back (c .before .before))) (checked (c .before .before) .valid))
+alive-requires c κs = (search needs, valid-kept (lent (back (c .before .before .before))) (checked (c .before .before .before) .valid))
 
 settle-slots-requires : tie.Need-settle-slots-requires
 settle-slots-requires c κs =
-    let kept = c .before .before .before .before .before .before .before in
+    let kept = c .before .before .before .before .before .before .before .before in
     let listed = kept .alive .ensures .listed in
-    ((search needs, listed), omega (arith, listed .few, checked (kept .before .before .before) .output-room))
+    ((search needs, listed), omega (arith, listed .few, checked (kept .before .before .before .before) .output-room))
 
 same-length : tie.Need-same-length
 same-length c = search needs
@@ -76,13 +76,14 @@ same-length c = search needs
 returns-2 : tie.Need-returns-2
 returns-2 c =
     let settled = c .before .before in
-    let kept = settled .before .before .before .before .before .before .before .before in
-    let past = kept .before .before .before in
+    let kept = settled .before .before .before .before .before .before .before .before .before in
+    let past = kept .before .before .before .before in
     let a = back past .args in
     let s = settled .settle-slots in (
       clocked-done (lent (back past)) (a .reading) (a .output .now) _ (kept .alive .ensures)
-          (s .last .1 .1 .1 .1 .1 .1 .1 .1 .0)
-          (stage (left (a .own) (a .reading) (s .last .1 .1 .0) (s .result) (s .last .1 .1 .1 .1 .0)) (firstSlots 32) (s .last .1 .1 .1 .1 .1 .1 .0) (s .last .1 .1 .1 .1 .1 .1 .1 .0) (s .last .1 .1 .1 .1 .1 .1 .1 .1 .1 .0)) _ (passed past) (s .ensures)
+          (s .last .1 .1 .1 .1 .1 .1 .1 .1 .1 .0)
+          (stage (left (a .own) (a .reading) (s .last .1 .1 .0) (s .result) (s .last .1 .1 .1 .1 .0) (s .last .1 .1 .1 .1 .1 .0)) (firstSlots 32)
+          (s .last .1 .1 .1 .1 .1 .1 .1 .0) (s .last .1 .1 .1 .1 .1 .1 .1 .1 .0) (s .last .1 .1 .1 .1 .1 .1 .1 .1 .1 .1 .0)) _ (passed past) (s .ensures)
           (s .ensures .panel),
       λ refuses. absurd (refuses refl),
     )

@@ -9,8 +9,8 @@ use Rattle.rules.specs.Handing.{raise}
 use Rattle.handing.proofs.hand.Statement.{statement}
 use Rattle.handing.proofs.hand.Tie as tie
 
-shorten-requires : tie.Need-shorten-requires
-shorten-requires c κs = search needs
+pass-entries-requires : tie.Need-pass-entries-requires
+pass-entries-requires c κs = search needs
 
 put-in-log-requires : tie.Need-put-in-log-requires
 put-in-log-requires c κs = search needs
@@ -21,10 +21,11 @@ same-length c = search needs
 returns : tie.Need-returns
 returns c =
     let put = c .before .before in
-    let short = put .before .before .before .before in
-    let m = messageIn 4 (now (short .before .before .before .before .args .frame)) in
+    let pass = put .before .before .before .before in
+    let m = messageIn 4 (now (pass .before .before .before .before .before .args .frame)) in
     let (high, marks, barrier, output) = put .put-in-log .ensures in
-    (high, marks, barrier ∙ ap (λ (b : List ℕ). raise b m) (short .shorten .ensures), output)
+    let (short, floor) = pass .pass-entries .ensures in
+    (high, marks, barrier ∙ ap (λ (b : List ℕ). raise b m) short, output, floor)
 
 pub hand-spec : {M : Type 1} → statement M
-hand-spec = tie.close (tie.spec shorten-requires put-in-log-requires same-length returns)
+hand-spec = tie.close (tie.spec pass-entries-requires put-in-log-requires same-length returns)

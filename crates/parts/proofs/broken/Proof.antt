@@ -17,7 +17,7 @@ use Rattle.parts.proofs.broken.Tie as tie
 abbrev given : tie.Start → Record
 given s =
     let a = s .args in
-    recordOf (parts (a .own) 0 (a .high) (a .count) (now (a .marks)) (now (a .barrier)) (now (a .slots)))
+    recordOf (parts (a .own) 0 (a .high) (a .count) (now (a .marks)) (now (a .barrier)) (now (a .slots)) 0)
 
 returns : tie.Need-returns
 returns c = sym (broken-own (given (c .before .before .before .before)) (omega (arith, c .if1 .taken)))

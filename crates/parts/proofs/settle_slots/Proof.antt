@@ -22,8 +22,8 @@ same-length c = search needs
 returns : tie.Need-returns
 returns c =
     let settled = c .before .before .before .before .before in
-    let s = settled .before .before .before .before .before .before .before .before .before .before in
-    settles-slots _ _ (left (s .args .own) (s .args .time) (settled .settle .last .1 .1 .0) (settled .settle .result) (settled .settle .last .1 .1 .1 .1 .0)) _ _ _ _ _
+    let s = settled .before .before .before .before .before .before .before .before .before .before .before in
+    settles-slots _ _ (left (s .args .own) (s .args .time) (settled .settle .last .1 .1 .0) (settled .settle .result) (settled .settle .last .1 .1 .1 .1 .0) (settled .settle .last .1 .1 .1 .1 .1 .0)) _ _ _ _ _
     (settled .settle .ensures) (long s) (c .gather .ensures)
 
 pub settle-slots-spec : {M : Type 1} → statement M

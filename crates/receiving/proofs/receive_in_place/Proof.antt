@@ -18,13 +18,13 @@ use Rattle.receiving.proofs.receive_in_place.Tie as tie
 
 -- looking back: the start of the call
 abbrev start : tie.After-receive-number → tie.Start
-start c = c .before .before .before .before .before .before .before .before .before .before
+start c = c .before .before .before .before .before .before .before .before .before .before .before
 
 -- the parts that were lent, and the record that they hold
 abbrev lent : tie.Start → Parts
 lent c =
     let a = c .args in
-    parts (a .own) (a .time) (a .high .now) (a .count .now) (a .marks .now) (a .barrier .now) (a .slots .now)
+    parts (a .own) (a .time) (a .high .now) (a .count .now) (a .marks .now) (a .barrier .now) (a .slots .now) (a .floor .now)
 
 abbrev given : tie.Start → Record
 given c = recordOf (lent c)
@@ -61,7 +61,7 @@ in-order-requires c κs = search needs
 
 settle-slots-requires : tie.Need-settle-slots-requires
 settle-slots-requires c κs =
-    let order = c .before .before .before .before .before .before in
+    let order = c .before .before .before .before .before .before .before in
     let take = order .before .before .before in
     let past = take .before .before .before .before .before in
     let taken = take .take .ensures in
@@ -76,14 +76,15 @@ same-length-2 c = search needs
 returns-2 : tie.Need-returns-2
 returns-2 c =
     let settled = c .before .before in
-    let order = settled .before .before .before .before .before .before .before in
+    let order = settled .before .before .before .before .before .before .before .before in
     let take = order .before .before .before in
     let past = take .before .before .before .before .before in
     let a = back past .args in
     let s = settled .settle-slots in (
       received-done (lent (back past)) (a .frame .now) (a .output .now) (valid-kept (lent (back past)) (checked past .valid)) (checked past .read) _ _
-          (take .take .ensures) (s .last .1 .1 .1 .1 .1 .1 .1 .1 .0)
-          (stage (left (take .take .result .own) (take .take .result .time) (s .last .1 .1 .0) (s .result) (s .last .1 .1 .1 .1 .0)) (firstSlots 32) (s .last .1 .1 .1 .1 .1 .1 .0) (s .last .1 .1 .1 .1 .1 .1 .1 .0) (s .last .1 .1 .1 .1 .1 .1 .1 .1 .1 .0))
+          (take .take .ensures) (s .last .1 .1 .1 .1 .1 .1 .1 .1 .1 .0)
+          (stage (left (take .take .result .own) (take .take .result .time) (s .last .1 .1 .0) (s .result) (s .last .1 .1 .1 .1 .0) (s .last .1 .1 .1 .1 .1 .0)) (firstSlots 32)
+          (s .last .1 .1 .1 .1 .1 .1 .1 .0) (s .last .1 .1 .1 .1 .1 .1 .1 .1 .0) (s .last .1 .1 .1 .1 .1 .1 .1 .1 .1 .1 .0))
           (rw (order .in-order .ensures) at (s .ensures)) (passed past),
       λ refuses. absurd (refuses refl),
     )

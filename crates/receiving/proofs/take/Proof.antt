@@ -14,7 +14,7 @@ abbrev start : tie.After-ready → tie.Start
 start c = c .before .before .before .before
 
 is-ready : (c : tie.After-ready) → let a = start c .args in
-    ready (asking (now (a .marks)) (a .s .time)) (messageIn 4 (now (a .frame))) ≡ c .ready .result .ready
+    ready (asking (now (a .marks)) (a .s .time) (a .s .floor)) (messageIn 4 (now (a .frame))) ≡ c .ready .result .ready
 is-ready c = sym (c .ready .ensures .0)
 
 few : (c : tie.Else1) → start (c .before) .args .s .waiting < 32
@@ -26,8 +26,8 @@ ready-requires c κs = search needs
 hand-requires : tie.Need-hand-requires
 hand-requires c κs = search needs
 
-add-rest : tie.Need-add-rest
-add-rest c = search needs
+add-count : tie.Need-add-count
+add-count c = search (needs, start (c .before .before .before .before .before .before .before .before) .pre .1 .1, start (c .before .before .before .before .before .before .before .before) .good)
 
 same-length : tie.Need-same-length
 same-length c = search needs
@@ -38,14 +38,14 @@ returns c =
     let test = c .before .before .before .before .before .before .before in
     let s = start (test .before) in
     taken-handed _ _ _ _ _ _ (s .pre .0 .0) (s .pre .0 .1) (s .pre .0 .2)
-    (is-ready (test .before) ∙ test .if1 .taken) (hand .result) _ _ _
-    (hand .ensures .0) (hand .ensures .1) (hand .ensures .2) (hand .ensures .3)
+    (is-ready (test .before) ∙ test .if1 .taken) (hand .result .high) (hand .result .floor) _ _ _
+    (hand .ensures .0) (hand .ensures .1) (hand .ensures .2) (hand .ensures .3) (hand .ensures .4)
 
 put-frame-requires : tie.Need-put-frame-requires
 put-frame-requires c κs = let s = start (c .before .before) in (s .pre .0 .1, few (c .before), length-reads _ (s .pre .0 .0))
 
-add-rest-2 : tie.Need-add-rest-2
-add-rest-2 c = search needs
+add-rest : tie.Need-add-rest
+add-rest c = search needs
 
 returns-2 : tie.Need-returns-2
 returns-2 c =
@@ -60,9 +60,9 @@ take-spec =
     (tie.spec
     ready-requires
     hand-requires
-    add-rest
+    add-count
     same-length
     returns
     put-frame-requires
-    add-rest-2
+    add-rest
     returns-2)

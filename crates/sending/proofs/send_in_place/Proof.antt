@@ -38,7 +38,7 @@ start c = known c .before
 abbrev lent : tie.Start → Parts
 lent c =
     let a = c .args in
-    parts (a .own) (a .time) (a .high .now) (a .count .now) (a .marks .now) (a .barrier .now) (a .slots .now)
+    parts (a .own) (a .time) (a .high .now) (a .count .now) (a .marks .now) (a .barrier .now) (a .slots .now) (a .floor .now)
 
 abbrev given : tie.Start → Record
 given c = recordOf (lent c)
@@ -136,9 +136,9 @@ part-frame-end c =
     let write = c .before .before .before .before in
     omega (arith, wrote write .0, frame-fits (passed (past write)), write .write .kept .1 .1 .1 .1 .0)
 
-put-in-log-requires : tie.Need-put-in-log-requires
-put-in-log-requires c κs =
-    let write = c .before .before .before .before .before .before .before .before in
+hand-requires : tie.Need-hand-requires
+hand-requires c κs =
+    let write = c .before .before .before .before .before .before .before .before .before in
     (rw (part write) (frame-reads (passed (past write))), omega (arith, checked (passed (past write)) .output-room))
 
 in-order-requires : tie.Need-in-order-requires
@@ -146,13 +146,13 @@ in-order-requires c κs = search needs
 
 settle-slots-requires : tie.Need-settle-slots-requires
 settle-slots-requires c κs =
-    let order = c .before .before .before .before .before .before in
-    let put = order .before .before .before in
-    let write = put .before .before .before .before .before .before .before .before .before in
+    let order = c .before .before .before .before .before .before .before in
+    let hand = order .before .before .before in
+    let write = hand .before .before .before .before .before .before .before .before .before .before in
     let P = checked (passed (past write)) in
     let whole = valid-kept (lent (back (past write))) (P .valid) in (
       (all-slots (past write .before .before), rw (order .in-order .ensures) (listed-order _ _ whole)),
-      omega (arith, whole .few, P .output-room, put .put-in-log .kept .1 .1 .1 .1 .1 .0),
+      omega (arith, whole .few, P .output-room, hand .hand .kept .1 .1 .1 .1 .1 .1 .1 .0),
     )
 
 same-length : tie.Need-same-length
@@ -165,18 +165,20 @@ returns-2 : tie.Need-returns-2
 unfolding none64
 returns-2 c =
     let settled = c .before .before in
-    let order = settled .before .before .before .before .before .before .before in
-    let put = order .before .before .before in
-    let write = put .before .before .before .before .before .before .before .before .before in
+    let order = settled .before .before .before .before .before .before .before .before in
+    let hand = order .before .before .before in
+    let write = hand .before .before .before .before .before .before .before .before .before .before in
     let P = passed (past write) in
-    let handed = put .put-in-log in
+    let handed = hand .hand in
     let s = settled .settle-slots in
-    let stage-is = stage-handed P _ (part write) (handed .result) (order .in-order .result) (handed .last .1 .1 .0) (handed .last .1 .1 .1 .0)
-    (handed .last .1 .1 .1 .1 .1 .0)
-    (handed .ensures .0) (order .in-order .ensures) (handed .ensures .1) (handed .ensures .2) (handed .ensures .3) in
+    let stage-is = stage-handed P _ (part write) (handed .result .high) (handed .result .floor) (order .in-order .result)
+    (handed .last .1 .1 .1 .1 .0) (handed .last .1 .1 .1 .1 .1 .0) (handed .last .1 .1 .1 .1 .1 .1 .1 .0)
+    (handed .ensures .0) (order .in-order .ensures) (handed .ensures .1) (handed .ensures .2) (handed .ensures .3)
+    (handed .ensures .4) in
     let settles = rw stage-is at (s .ensures) in (
-      sent-done P (valid-kept (lent (back (past write))) (checked P .valid)) (s .last .1 .1 .1 .1 .1 .1 .1 .1 .0)
-          (stage (left (back (past write) .args .own) (back (past write) .args .time) (s .last .1 .1 .0) (s .result) (s .last .1 .1 .1 .1 .0)) (firstSlots 32) (s .last .1 .1 .1 .1 .1 .1 .0) (s .last .1 .1 .1 .1 .1 .1 .1 .0) (s .last .1 .1 .1 .1 .1 .1 .1 .1 .1 .0)) _ settles (settles .panel)
+      sent-done P (valid-kept (lent (back (past write))) (checked P .valid)) (s .last .1 .1 .1 .1 .1 .1 .1 .1 .1 .0)
+          (stage (left (back (past write) .args .own) (back (past write) .args .time) (s .last .1 .1 .0) (s .result) (s .last .1 .1 .1 .1 .0) (s .last .1 .1 .1 .1 .1 .0)) (firstSlots 32)
+          (s .last .1 .1 .1 .1 .1 .1 .1 .0) (s .last .1 .1 .1 .1 .1 .1 .1 .1 .0) (s .last .1 .1 .1 .1 .1 .1 .1 .1 .1 .1 .0)) _ settles (settles .panel)
           _ _ (wrote write .0) (wrote write .1),
       λ refuses. absurd (refuses refl),
     )
@@ -194,7 +196,7 @@ send-in-place-spec =
     sub-frame
     part-frame-start
     part-frame-end
-    put-in-log-requires
+    hand-requires
     in-order-requires
     settle-slots-requires
     same-length

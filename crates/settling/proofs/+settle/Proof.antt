@@ -25,14 +25,14 @@ use Rattle.handing.proofs.hand.Kinds as hand-kinds
 use Rattle.settling.proofs.+settle.{statement}
 use Rattle.settling.proofs.+settle.Tie.{close}
 
-abbrev μ-settle : Measures 7 settle-kinds.ps ℕ
+abbrev μ-settle : Measures 8 settle-kinds.ps ℕ
 μ-settle κs a = a .1 .1 .1 .0
 
-abbrev settle-at : ℕ → In 7 settle-kinds.ps
-settle-at t = and 7 settle-kinds.ps (is 7 settle-kinds.ps μ-settle t) settle.Pre
+abbrev settle-at : ℕ → In 8 settle-kinds.ps
+settle-at t = and 8 settle-kinds.ps (is 8 settle-kinds.ps μ-settle t) settle.Pre
 
-abbrev settle-below : ℕ → In 7 settle-kinds.ps
-settle-below t = and 7 settle-kinds.ps (falls 7 settle-kinds.ps _<_ μ-settle t) settle.Pre
+abbrev settle-below : ℕ → In 8 settle-kinds.ps
+settle-below t = and 8 settle-kinds.ps (falls 8 settle-kinds.ps _<_ μ-settle t) settle.Pre
 
 -- what each call in it asks, and what it gives: those of the choice, of leaving the list, of handing, and of settling what is left
 abbrev calls : ℕ
@@ -44,8 +44,8 @@ abbrev calls : ℕ
     × Out 1 kept-frame-kinds.ps kept-frame-kinds.r
     × In 4 hand-kinds.ps
     × Out 4 hand-kinds.ps hand-kinds.r
-    × In 7 settle-kinds.ps
-    × Out 7 settle-kinds.ps settle-kinds.r
+    × In 8 settle-kinds.ps
+    × Out 8 settle-kinds.ps settle-kinds.r
 calls t = (
   choice-reads.Asked,
   choice-reads.Learnt,
@@ -67,10 +67,10 @@ abbrev Chosen : ℕ → Type 0
 Chosen t = settle-lts.Else1 (calls t) (settle-at t) settle.Post
 
 abbrev start : (t : ℕ) → Chosen t → Start t
-start t c = c .before .before .before .before .before .before .before
+start t c = c .before .before .before .before .before .before .before .before
 
 abbrev begun : (t : ℕ) → Start t → Settling
-begun t s = let a = s .args in left (a .own) (a .time) (a .high .now) (a .waiting) (a .handed .now)
+begun t s = let a = s .args in left (a .own) (a .time) (a .high .now) (a .waiting) (a .handed .now) (a .floor .now)
 
 abbrev from : (t : ℕ) → Start t → Stage
 from t s = let a = s .args in stage (begun t s) (a .places .now) (a .marks .now) (a .barrier .now) (a .output .now)
@@ -83,12 +83,12 @@ below t c =
     found-below (s .args .slots .now) (from t s) (s .pre .1 .0 .1) (s .pre .1 .0 .2) (choice .result) (choice .ensures) (not-false _ (c .if1 .left))
 
 settle-choice-requires : (t : ℕ) → settle-lts.Need-choice-requires (calls t) (settle-at t) settle.Post
-settle-choice-requires t c κs = c .before .before .before .before .pre .1 .0
+settle-choice-requires t c κs = c .before .before .before .before .before .pre .1 .0
 
 settle-returns : (t : ℕ) → settle-lts.Need-returns (calls t) (settle-at t) settle.Post
 settle-returns t c =
     let choice = c .before .before .choice in
-    let s = c .before .before .before .before .before .before .before in
+    let s = c .before .before .before .before .before .before .before .before in
     settles-none (s .args .slots .now) (from t s) (s .pre .1 .0 .1) (s .pre .1 .0 .2) (choice .result) (choice .ensures) (not-true _ (c .if1 .taken))
 
 settle-leave-requires : (t : ℕ) → settle-lts.Need-leave-requires (calls t) (settle-at t) settle.Post
@@ -119,8 +119,8 @@ settle-hand-requires t c κs =
 handed : (t : ℕ) (c : settle-lts.After-hand (calls t) (settle-at t) settle.Post) → let b = c .before .before .before .before .before .before .before .before .before in
     let leave = c .before .before .before .before .before .before .before in
     HandedAt (start t b .args .slots .now) (b .before .before .choice .result .place) (from t (start t b))
-    (stage (oneHanded (begun t (start t b)) (c .hand .result)) (leave .leave .last .0) (c .hand .last .1 .1 .0) (c .hand .last .1 .1 .1 .0)
-    (c .hand .last .1 .1 .1 .1 .1 .0))
+    (stage (oneHanded (begun t (start t b)) (c .hand .result .high) (c .hand .result .floor)) (leave .leave .last .0) (c .hand .last .1 .1 .1 .1 .0) (c .hand .last .1 .1 .1 .1 .1 .0)
+    (c .hand .last .1 .1 .1 .1 .1 .1 .1 .0))
 handed t c =
     let b = c .before .before .before .before .before .before .before .before .before in
     let s = start t b in
@@ -130,7 +130,8 @@ handed t c =
     let is = ap (messageIn 4) (sym (frame .ensures ∙ ap (frameAt (a .slots .now)) (leave .ensures .0))) in
     handed-at (a .slots .now) (b .before .before .choice .result .place) (begun t s) (a .places .now) (leave .last .0) (a .marks .now) (a .barrier .now)
     (a .output .now) (messageIn 4 (frame .result .now)) (s .pre .1 .0 .1) (s .pre .1 .0 .2) (below t b) is (leave .ensures .1)
-    (c .hand .result) _ _ _ (c .hand .ensures .0) (c .hand .ensures .1) (c .hand .ensures .2) (c .hand .ensures .3)
+    (c .hand .result .high) (c .hand .result .floor) _ _ _ (c .hand .ensures .0) (c .hand .ensures .1) (c .hand .ensures .2) (c .hand .ensures .3)
+    (c .hand .ensures .4)
 
 settle-add-handed : (t : ℕ) → settle-lts.Need-add-handed (calls t) (settle-at t) settle.Post
 settle-add-handed t c =
@@ -142,34 +143,35 @@ settle-sub-settle t c = omega (arith, below t (c .before .before .before .before
 
 settle-settle-requires : (t : ℕ) → settle-lts.Need-settle-requires (calls t) (settle-at t) settle.Post
 settle-settle-requires t c κs =
-    let hand = c .before .before .before .before .before .before .before .before in
+    let hand = c .before .before .before .before .before .before .before .before .before in
     let leave = hand .before .before .before .before .before .before .before in
     let b = leave .before .before in
     let s = start t b in (
       omega (arith, s .pre .0, below t b),
       (
         (s .pre .1 .0 .0, handed t hand .listed, leave .leave .ensures .1 .long ∙ s .pre .1 .0 .2),
-        omega (arith, s .pre .1 .1, below t b, hand .hand .kept .1 .1 .1 .1 .1 .0),
+        omega (arith, s .pre .1 .1, below t b, hand .hand .kept .1 .1 .1 .1 .1 .1 .1 .0),
       ),
     )
 
 settle-same-length : (t : ℕ) → settle-lts.Need-same-length (calls t) (settle-at t) settle.Post
 settle-same-length t c =
     let rest = c .before .before in
-    rest .settle .kept .1 .1 .1 .1 .1 .1 .1 .1 .1 .0
-    ∙ rest .before .before .before .before .before .before .before .before .before .hand .kept .1 .1 .1 .1 .1 .0
+    rest .settle .kept .1 .1 .1 .1 .1 .1 .1 .1 .1 .1 .0
+    ∙ rest .before .before .before .before .before .before .before .before .before .before .hand .kept .1 .1 .1 .1 .1 .1 .1 .0
 
 settle-returns-2 : (t : ℕ) → settle-lts.Need-returns-2 (calls t) (settle-at t) settle.Post
 settle-returns-2 t c =
     let rest = c .before .before .settle in
-    let hand = c .before .before .before .before .before .before .before .before .before .before .before in
+    let hand = c .before .before .before .before .before .before .before .before .before .before .before .before in
     let b = hand .before .before .before .before .before .before .before .before .before in
     let choice = b .before .before .choice in
     let s = start t b in
     settles-some (s .args .slots .now) (from t s) (s .pre .1 .0 .1) (s .pre .1 .0 .2) (choice .result) (choice .ensures)
     (not-false _ (b .if1 .left)) (omega (arith, s .pre .1 .1)) _
-    (stage (left (s .args .own) (s .args .time) (rest .last .1 .1 .0) (rest .result) (rest .last .1 .1 .1 .1 .0)) (rest .last .1 .1 .1 .1 .1 .0)
-    (rest .last .1 .1 .1 .1 .1 .1 .0) (rest .last .1 .1 .1 .1 .1 .1 .1 .0) (rest .last .1 .1 .1 .1 .1 .1 .1 .1 .1 .0))
+    (stage (left (s .args .own) (s .args .time) (rest .last .1 .1 .0) (rest .result) (rest .last .1 .1 .1 .1 .0) (rest .last .1 .1 .1 .1 .1 .0))
+    (rest .last .1 .1 .1 .1 .1 .1 .0) (rest .last .1 .1 .1 .1 .1 .1 .1 .0) (rest .last .1 .1 .1 .1 .1 .1 .1 .1 .0)
+    (rest .last .1 .1 .1 .1 .1 .1 .1 .1 .1 .1 .0))
     (handed t hand)
     (rest .ensures)
 

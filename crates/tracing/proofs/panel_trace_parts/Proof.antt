@@ -23,7 +23,7 @@ start c = c .before .before .before .before .before .before
 -- the parts that were lent, and the record that they hold
 abbrev lent : tie.After-frame-check → Parts
 lent c =
-    let a = start c .args in parts (a .own) (a .time) (a .high) (a .count) (now (a .marks)) (now (a .barrier)) (now (a .slots))
+    let a = start c .args in parts (a .own) (a .time) (a .high) (a .count) (now (a .marks)) (now (a .barrier)) (now (a .slots)) (a .floor)
 
 abbrev given : tie.After-frame-check → Record
 given c = recordOf (lent c)
@@ -80,7 +80,7 @@ returns-3 c =
     let at = tested .before .before in
     let bytes = now (start at .args .frame) in
     let read = reads (tested .before) in
-    let number = c .message-number .ensures ∙ ap firstOf (checks-asking _ _ _ _ _ _ _ _) ∙ number-read (given at) bytes (whole (c .before .before)) read in
+    let number = c .message-number .ensures ∙ ap firstOf (checks-asking _ _ _ _ _ _ _ _ _) ∙ number-read (given at) bytes (whole (c .before .before)) read in
     shown-read (given at) bytes _ number read _ _ (tested .ready .ensures .0) (tested .ready .ensures .1)
 
 pub panel-trace-parts-spec : {M : Type 1} → statement M

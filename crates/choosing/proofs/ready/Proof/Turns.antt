@@ -23,15 +23,15 @@ use Rattle.slots.proofs.Walk.{entryOf, length-entries, Walk, walk-start, end-no
 use Rattle.choosing.specs.Choice.{asking}
 
 -- an entry beside the mark of its panel
-abbrev pub metBy : ℕ → ℕ → ℕ → Bool
-metBy mark time entry = met (asking (mark ∷ []) time) 0 entry
+abbrev pub metBy : ℕ → ℕ → ℕ → ℕ → Bool
+metBy mark time floor entry = met (asking (mark ∷ []) time floor) 0 entry
 
-module _ (bs marks : List ℕ) (time : ℕ) where
+module _ (bs marks : List ℕ) (time floor : ℕ) where
   -- whether the entry of one panel is met
   abbrev metAt : ℕ → Bool
-  metAt panel = met (asking marks time) panel (entryOf bs panel)
+  metAt panel = met (asking marks time floor) panel (entryOf bs panel)
 
-  metAt-entry : (panel entry : ℕ) → entryOf bs panel ≡ entry → metAt panel ≡ metBy (getD marks panel 0) time entry
+  metAt-entry : (panel entry : ℕ) → entryOf bs panel ≡ entry → metAt panel ≡ metBy (getD marks panel 0) time floor entry
   unfolding met lapsed
   metAt-entry panel entry e = rw e
 
@@ -46,7 +46,7 @@ module _ (bs marks : List ℕ) (time : ℕ) where
       ap (λ (k : ℕ). eachPanel k metAt) same ∙ metAt-skip (suc panel) n (λ k above lt. none k (omega arith) (omega arith)) (rw (e, here))
 
   -- one entry that is not met
-  ready-unmet : (panel : ℕ) → panel < 64 → metAt panel ≡ false → ready (asking marks time) (messageIn 4 bs) ≡ false
+  ready-unmet : (panel : ℕ) → panel < 64 → metAt panel ≡ false → ready (asking marks time floor) (messageIn 4 bs) ≡ false
   unfolding ready
   ready-unmet panel below f = go (eachPanel 64 metAt) refl
     where
@@ -61,56 +61,56 @@ mask-ones bs reads fits = ap (onesIn 64) (maskOf-passed 4 bs (zero-passed 4 bs r
 -- ---- the loop
 
 -- The entries of the panels below some panel are met, and were visited.
-pub record MetBelow (bs marks : List ℕ) (time bits visited : ℕ) : Type 0 where
+pub record MetBelow (bs marks : List ℕ) (time floor bits visited : ℕ) : Type 0 where
   pub walk : Walk bs bits visited
-  pub all-met : eachPanel (walk .panel) (metAt bs marks time) ≡ true
+  pub all-met : eachPanel (walk .panel) (metAt bs marks time floor) ≡ true
 
-module _ (bs marks : List ℕ) (time : ℕ) where
-  pub met-start : maskIn 4 bs < 2 ^ 64 → MetBelow bs marks time (maskIn 4 bs) 0
+module _ (bs marks : List ℕ) (time floor : ℕ) where
+  pub met-start : maskIn 4 bs < 2 ^ 64 → MetBelow bs marks time floor (maskIn 4 bs) 0
   unfolding eachPanel
   met-start fits = record { walk = walk-start bs fits; all-met = refl }
 
 -- no bit is left
-module _ (bs marks : List ℕ) (time bits visited : ℕ) (m : MetBelow bs marks time bits visited) (none : bits ≡ 0) where
-  pub end-ready : ready (asking marks time) (messageIn 4 bs) ≡ true
+module _ (bs marks : List ℕ) (time floor bits visited : ℕ) (m : MetBelow bs marks time floor bits visited) (none : bits ≡ 0) where
+  pub end-ready : ready (asking marks time floor) (messageIn 4 bs) ≡ true
   unfolding ready
   end-ready =
       let panel = m .walk .panel in
       let all : 64 ≡ panel + (64 - panel) = omega (arith, m .walk .few) in
-      ap (λ (n : ℕ). eachPanel n (metAt bs marks time)) all
-      ∙ metAt-skip bs marks time panel (64 - panel) (λ k above lt. end-none (m .walk) none k above) (m .all-met)
+      ap (λ (n : ℕ). eachPanel n (metAt bs marks time floor)) all
+      ∙ metAt-skip bs marks time floor panel (64 - panel) (λ k above lt. end-none (m .walk) none k above) (m .all-met)
 
   -- all were visited
-  pub end-visits : Reads bs → visited ≡ visits (asking marks time) (messageIn 4 bs)
+  pub end-visits : Reads bs → visited ≡ visits (asking marks time floor) (messageIn 4 bs)
   end-visits reads =
-      omega (arith, end-passed (m .walk) none, mask-ones bs reads (m .walk .fits), visits-counted (asking marks time) (messageIn 4 bs) (length-entries bs) .all-met end-ready)
+      omega (arith, end-passed (m .walk) none, mask-ones bs reads (m .walk .fits), visits-counted (asking marks time floor) (messageIn 4 bs) (length-entries bs) .all-met end-ready)
 
 -- a turn, to the next panel whose bit is set
-module _ (bs marks : List ℕ) (time bits visited : ℕ) (m : MetBelow bs marks time bits visited) (some : bits ≡ 0 → ⊥) where
+module _ (bs marks : List ℕ) (time floor bits visited : ℕ) (m : MetBelow bs marks time floor bits visited) (some : bits ≡ 0 → ⊥) where
   abbrev pub metNow : Bool
-  metNow = metBy (getD marks (next bits) 0) time (numberAt bs (18 + 4 * visited) 4)
+  metNow = metBy (getD marks (next bits) 0) time floor (numberAt bs (18 + 4 * visited) 4)
 
-  turn-met : metAt bs marks time (next bits) ≡ metNow
-  turn-met = metAt-entry bs marks time (next bits) (numberAt bs (18 + 4 * visited) 4) (turn-entry (m .walk) some)
+  turn-met : metAt bs marks time floor (next bits) ≡ metNow
+  turn-met = metAt-entry bs marks time floor (next bits) (numberAt bs (18 + 4 * visited) 4) (turn-entry (m .walk) some)
 
   -- the entries of the panels before it are met
-  all-before : eachPanel (next bits) (metAt bs marks time) ≡ true
+  all-before : eachPanel (next bits) (metAt bs marks time floor) ≡ true
   all-before =
       let panel = m .walk .panel in
       let reached : next bits ≡ panel + (next bits - panel) = omega (arith, turn-above (m .walk) some) in
-      ap (λ (n : ℕ). eachPanel n (metAt bs marks time)) reached
-      ∙ metAt-skip bs marks time panel (next bits - panel) (λ k above lt. turn-skips (m .walk) some k above (omega (arith, reached))) (m .all-met)
+      ap (λ (n : ℕ). eachPanel n (metAt bs marks time floor)) reached
+      ∙ metAt-skip bs marks time floor panel (next bits - panel) (λ k above lt. turn-skips (m .walk) some k above (omega (arith, reached))) (m .all-met)
 
   -- it is not met: the test stops, and has visited it
-  pub stop-ready : metNow ≡ false → ready (asking marks time) (messageIn 4 bs) ≡ false
-  stop-ready f = ready-unmet bs marks time (next bits) (turn-lt (m .walk) some) (turn-met ∙ f)
+  pub stop-ready : metNow ≡ false → ready (asking marks time floor) (messageIn 4 bs) ≡ false
+  stop-ready f = ready-unmet bs marks time floor (next bits) (turn-lt (m .walk) some) (turn-met ∙ f)
 
-  pub stop-visits : Reads bs → metNow ≡ false → visited + 1 ≡ visits (asking marks time) (messageIn 4 bs)
+  pub stop-visits : Reads bs → metNow ≡ false → visited + 1 ≡ visits (asking marks time floor) (messageIn 4 bs)
   stop-visits reads f =
-      let stop = visits-stop (asking marks time) (messageIn 4 bs) (next bits) all-before (turn-met ∙ f) in
+      let stop = visits-stop (asking marks time floor) (messageIn 4 bs) (next bits) all-before (turn-met ∙ f) in
       omega (arith, turn-passed (m .walk) some, ap (onesIn (next bits)) (maskOf-passed 4 bs (zero-passed 4 bs reads) (m .walk .fits)), stop)
 
   -- it is met: the test goes on
-  pub turn-on : metNow ≡ true → MetBelow bs marks time (bitAnd bits (bits - 1)) (visited + 1)
+  pub turn-on : metNow ≡ true → MetBelow bs marks time floor (bitAnd bits (bits - 1)) (visited + 1)
   unfolding eachPanel
   turn-on t = record { walk = walk-on (m .walk) some; all-met = rw (add-one, all-before, turn-met) t }

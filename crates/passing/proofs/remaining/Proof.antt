@@ -1,8 +1,8 @@
--- `shortening::remaining` meets its contract. Assumes nothing.
+-- `passing::remaining` meets its contract. Assumes nothing.
 use borrow.Author.Tests.{le-leb, lt-leb}
 use native.Mathlib.Omega.{arith}
-use Rattle.shortening.proofs.remaining.Statement.{statement}
-use Rattle.shortening.proofs.remaining.Tie as tie
+use Rattle.passing.proofs.remaining.Statement.{statement}
+use Rattle.passing.proofs.remaining.Tie as tie
 
 returns : tie.Need-returns
 returns c = let a = c .before .args in simp (le-leb (a .entry) (a .carried) (omega (arith, c .if1 .taken)))

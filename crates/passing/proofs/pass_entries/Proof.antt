@@ -1,25 +1,25 @@
--- `shortening::shorten` meets its contract. Its loop's invariant is `ShortBelow`: below the panel that the walk has come to, the barrier is as it is
--- to be. Assumes nothing.
-use mathlib.Core.Path.{sym, ap, _∙_, subst}
-use Prim.Native.Nat.{ℕ, _+_, _-_, _*_, _^_, _≤_, _<_}
+-- `passing::pass_entries` meets its contract. Its loop's invariant is `PassedBelow`. Assumes nothing.
+use mathlib.Core.Path.{_≡_, sym, ap, _∙_, subst}
+use Prim.Native.Nat.{ℕ, _+_, _-_, _*_, _^_, _≤_, _<_, max}
 use native.Mathlib.Omega.{arith}
 use borrow.Author.Needs.{needs}
 use denote.Ref.{now}
 use lib.ListN.{length, getD}
 use lib.Bits.{and-le-r}
 use Rattle.frame.proofs.Passed.{zero-passed}
-use Rattle.rules.specs.Handing.{remains}
+use Rattle.rules.specs.Handing.{remains, missedEntry}
 use Rattle.slots.proofs.SetBits.{next}
 use Rattle.slots.proofs.Walk.{turn-lt, turn-room}
-use Rattle.shortening.proofs.Shortening.{ShortBelow, short-start, short-end, short-on}
-use Rattle.shortening.proofs.shorten.Statement.{statement}
-use Rattle.shortening.proofs.shorten.Tie as tie
+use Rattle.passing.proofs.Passing.{PassedBelow, passed-start, passed-end, passed-on}
+use Rattle.passing.proofs.pass_entries.Statement.{statement}
+use Rattle.passing.proofs.pass_entries.Tie as tie
 
 abbrev Inv-loop : tie.InvT-loop
-Inv-loop barrier₀ frame bits₀ passed₀ barrier bits passed = ShortBelow frame barrier₀ barrier bits passed
+Inv-loop time floor marks barrier₀ frame bits₀ passed₀ risen₀ barrier bits passed risen =
+    PassedBelow frame barrier₀ marks time floor barrier bits passed risen
 
 abbrev μ-loop : tie.MeasureT-loop
-μ-loop barrier₀ frame bits₀ passed₀ barrier bits passed = bits
+μ-loop time floor marks barrier₀ frame bits₀ passed₀ risen₀ barrier bits passed risen = bits
 
 number-at-requires : tie.Need-number-at-requires Inv-loop μ-loop
 number-at-requires c κs = omega (arith, zero-passed 4 _ (c .before .pre) .long)
@@ -28,8 +28,11 @@ loop-holds : tie.Need-loop-holds Inv-loop μ-loop
 loop-holds c =
     let a = c .before .before .args in
     let mask = c .number-at .ensures .0 in
-    subst (λ (bits : ℕ). ShortBelow (now (a .frame)) (now (a .barrier)) (now (a .barrier)) bits 0) (sym mask)
-    (short-start (now (a .frame)) (now (a .barrier)) (subst (λ (bits : ℕ). bits < 2 ^ 64) mask (c .number-at .ensures .1)))
+    subst
+    (λ (bits : ℕ). PassedBelow (now (a .frame)) (now (a .barrier)) (now (a .marks)) (a .time) (a .floor) (now (a .barrier)) bits 0 (a .floor))
+    (sym mask)
+    (passed-start (now (a .frame)) (now (a .barrier)) (now (a .marks)) (a .time) (a .floor)
+    (subst (λ (bits : ℕ). bits < 2 ^ 64) mask (c .number-at .ensures .1)))
 
 -- in a turn the panel is one of 64, and its entry stands within the frame
 below : (c : tie.In-loop Inv-loop μ-loop) → next (c .before .loop .bits) < 64
@@ -68,30 +71,46 @@ mul-barrier c = omega (arith, below (c .before .before .before))
 element-write-barrier : tie.Need-element-write-barrier Inv-loop μ-loop
 element-write-barrier c = below (c .before .before .before)
 
+mul-raised : tie.Need-mul-raised Inv-loop μ-loop
+mul-raised c = omega (arith, below (c .before .before .before))
+
+element-copy-out-raised : tie.Need-element-copy-out-raised Inv-loop μ-loop
+element-copy-out-raised c = below (c .before .before .before)
+
+raised-requires : tie.Need-raised-requires Inv-loop μ-loop
+raised-requires c κs = tt
+
+-- looking back, from behind the last call of a turn to its start
+abbrev turn : tie.After-raised Inv-loop μ-loop → tie.In-loop Inv-loop μ-loop
+turn c = c .before .before .before .before .before
+
 sub-bits : tie.Need-sub-bits Inv-loop μ-loop
-sub-bits c = omega (arith, c .before .before .before .loop-test .taken)
+sub-bits c = omega (arith, turn c .loop-test .taken)
 
 add-passed : tie.Need-add-passed Inv-loop μ-loop
-add-passed c = search (needs, room (c .before .before .before))
+add-passed c = search (needs, room (turn c))
 
 loop-less : tie.Need-loop-less Inv-loop μ-loop
 loop-less c =
-    let turn = c .before .before .before in
-    let bits = turn .before .loop .bits in
-    omega (arith, and-le-r bits (bits - 1), turn .loop-test .taken)
+    let bits = turn c .before .loop .bits in
+    omega (arith, and-le-r bits (bits - 1), turn c .loop-test .taken)
 
 loop-again : tie.Need-loop-again Inv-loop μ-loop
 loop-again c =
-    let turn = c .before .before .before in
-    let l = turn .before .loop in
-    short-on _ _ _ _ _ (l .inv) (turn .loop-test .taken) (c .remaining .result)
-    (c .remaining .ensures ∙ ap (remains (getD (l .barrier) (next (l .bits)) 0)) (c .before .before .number-at2 .ensures .0))
+    let t = turn c in
+    let l = t .before .loop in
+    let a = t .before .before .before .before .args in
+    let left = c .before .before in
+    let entry = left .before .before .number-at2 .ensures .0 in
+    passed-on _ _ _ _ _ (l .inv) (t .loop-test .taken) (left .remaining .result) (c .raised .result)
+    (left .remaining .ensures ∙ ap (remains (getD (l .barrier) (next (l .bits)) 0)) entry)
+    (c .raised .ensures ∙ ap (λ (e : ℕ). max (l .risen) (missedEntry (a .time) (l .risen) (getD (now (a .marks)) (next (l .bits)) 0) e)) entry)
 
 returns : tie.Need-returns Inv-loop μ-loop
-returns c = short-end _ _ _ _ _ (c .before .loop .inv) (c .loop-test .left)
+returns c = passed-end _ _ _ _ _ (c .before .loop .inv) (c .loop-test .left)
 
-pub shorten-spec : {M : Type 1} → statement M
-shorten-spec =
+pub pass-entries-spec : {M : Type 1} → statement M
+pass-entries-spec =
     tie.close
     (tie.spec
     Inv-loop
@@ -108,6 +127,9 @@ shorten-spec =
     remaining-requires
     mul-barrier
     element-write-barrier
+    mul-raised
+    element-copy-out-raised
+    raised-requires
     sub-bits
     add-passed
     loop-less

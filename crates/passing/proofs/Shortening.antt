@@ -1,19 +1,18 @@
--- A walk over the entries of a frame that removes barrier entries. Assumes nothing.
+-- A walk over the entries of a frame that removes barrier entries: what is left below the panel that it has come to. Assumes nothing.
 use mathlib.Core.Path.{_≡_, refl, sym, ap, _∙_}
 use mathlib.Core.Logic.{by-cases}
 use mathlib.Core.List.{List}
-use Prim.Native.Nat.{ℕ, _+_, _-_, _*_, _^_, _≤_, _<_}
+use Prim.Native.Nat.{ℕ, _+_, _*_, _≤_, _<_}
 use native.Mathlib.Decide.{ℕ-discrete, decLt}
 use native.Mathlib.Omega.{arith}
 use lib.ListN.{length, getD, set, length-set, List·getD-eq-default}
 use lib.Seq.{getD-set-same, getD-set-other, ext-getD}
-use lib.Bits.{bitAnd}
 use Rattle.numbers.specs.Numbers.{numberAt}
-use Rattle.frame.specs.Reading.{maskIn, messageIn}
+use Rattle.frame.specs.Reading.{messageIn}
 use Rattle.rules.specs.Handing.{remains, shortened}
 use Rattle.rules.proofs.Shortened.{without-entry, getD-shortened, length-shortened}
 use Rattle.slots.proofs.SetBits.{next}
-use Rattle.slots.proofs.Walk.{entryOf, Walk, walk-start, end-none, turn-entry, turn-above, turn-skips, walk-on}
+use Rattle.slots.proofs.Walk.{entryOf, Walk, end-none, turn-entry, turn-above, turn-skips}
 
 module _ (bs before : List ℕ) where
   -- the barrier as it is to be
@@ -26,29 +25,29 @@ module _ (bs before : List ℕ) where
   short-none : (k : ℕ) → entryOf bs k ≡ 0 → getD short k 0 ≡ getD before k 0
   short-none k e = short-entry k 0 e ∙ without-entry (getD before k 0)
 
-  -- below the panel that the walk has come to, the barrier is as it is to be; from there on it is as it was
-  pub record ShortBelow (barrier : List ℕ) (bits passed : ℕ) : Type 0 where
-    pub walk : Walk bs bits passed
+  -- below that panel the barrier is as it is to be; from there on it is as it was
+  pub record ShortBelow (barrier : List ℕ) (panel : ℕ) : Type 0 where
     pub long : length barrier ≡ length before
-    pub below : (k : ℕ) → k < walk .panel → getD barrier k 0 ≡ getD short k 0
-    pub above : (k : ℕ) → walk .panel ≤ k → getD barrier k 0 ≡ getD before k 0
+    pub below : (k : ℕ) → k < panel → getD barrier k 0 ≡ getD short k 0
+    pub above : (k : ℕ) → panel ≤ k → getD barrier k 0 ≡ getD before k 0
 
-  pub short-start : maskIn 4 bs < 2 ^ 64 → ShortBelow before (maskIn 4 bs) 0
-  short-start fits = record { walk = walk-start bs fits; long = refl; below = λ k lt. absurd (omega arith); above = λ k _. refl }
+  pub short-start : ShortBelow before 0
+  short-start = record { long = refl; below = λ k lt. absurd (omega arith); above = λ k _. refl }
 
 -- no bit is left
-pub short-end : (bs before barrier : List ℕ) (bits passed : ℕ) → ShortBelow bs before barrier bits passed → bits ≡ 0
+pub short-end : {bs before barrier : List ℕ} {bits passed : ℕ} (w : Walk bs bits passed) → ShortBelow bs before barrier (w .panel) → bits ≡ 0
     → barrier ≡ shortened before (messageIn 4 bs .entries)
-short-end bs before barrier bits passed s none =
+short-end {bs} {before} {barrier} w s none =
     ext-getD 0 barrier (short bs before) (s .long ∙ sym (length-shortened before (messageIn 4 bs .entries)))
     (λ k _.
-    by-cases (decLt k (s .walk .panel)) (s .below k)
+    by-cases (decLt k (w .panel)) (s .below k)
     (λ past.
-    let from : s .walk .panel ≤ k = omega (arith, past) in
-    s .above k from ∙ sym (short-none bs before k (end-none (s .walk) none k from))))
+    let from : w .panel ≤ k = omega (arith, past) in
+    s .above k from ∙ sym (short-none bs before k (end-none w none k from))))
 
 -- a turn: what is left of the entry of the next panel whose bit is set
-module _ (bs before barrier : List ℕ) (bits passed : ℕ) (s : ShortBelow bs before barrier bits passed) (some : bits ≡ 0 → ⊥) (value : ℕ) where
+module _ {bs before barrier : List ℕ} {bits passed : ℕ} (w : Walk bs bits passed) (s : ShortBelow bs before barrier (w .panel)) (some : bits ≡ 0 → ⊥)
+    (value : ℕ) where
   abbrev panel : ℕ
   panel = next bits
 
@@ -59,8 +58,8 @@ module _ (bs before barrier : List ℕ) (bits passed : ℕ) (s : ShortBelow bs b
       (λ lt.
       getD-set-same barrier panel value 0 lt
       ∙ is
-      ∙ ap (λ (b : ℕ). remains b (numberAt bs (18 + 4 * passed) 4)) (s .above panel (turn-above (s .walk) some))
-      ∙ sym (short-entry bs before panel _ (turn-entry (s .walk) some)))
+      ∙ ap (λ (b : ℕ). remains b (numberAt bs (18 + 4 * passed) 4)) (s .above panel (turn-above w some))
+      ∙ sym (short-entry bs before panel _ (turn-entry w some)))
       (λ past.
       List·getD-eq-default (set barrier panel value) 0 {n = panel} (omega (arith, past, length-set barrier panel value))
       ∙ sym
@@ -69,16 +68,15 @@ module _ (bs before barrier : List ℕ) (bits passed : ℕ) (s : ShortBelow bs b
 
   other : (k : ℕ) → k < panel → getD barrier k 0 ≡ getD (short bs before) k 0
   other k lt =
-      by-cases (decLt k (s .walk .panel)) (s .below k)
+      by-cases (decLt k (w .panel)) (s .below k)
       (λ past.
-      let from : s .walk .panel ≤ k = omega (arith, past) in
-      s .above k from ∙ sym (short-none bs before k (turn-skips (s .walk) some k from lt)))
+      let from : w .panel ≤ k = omega (arith, past) in
+      s .above k from ∙ sym (short-none bs before k (turn-skips w some k from lt)))
 
   pub short-on : value ≡ remains (getD barrier panel 0) (numberAt bs (18 + 4 * passed) 4)
-      → ShortBelow bs before (set barrier panel value) (bitAnd bits (bits - 1)) (passed + 1)
+      → ShortBelow bs before (set barrier panel value) (panel + 1)
   short-on is =
       record {
-        walk = walk-on (s .walk) some;
         long = length-set barrier panel value ∙ s .long;
         below = λ k below.
             by-cases (ℕ-discrete k panel)
@@ -86,5 +84,5 @@ module _ (bs before barrier : List ℕ) (bits passed : ℕ) (s : ShortBelow bs b
             (λ n. getD-set-other barrier panel k value 0 n ∙ other k (omega (arith, below, n)));
         above = λ k from.
             getD-set-other barrier panel k value 0 (λ e. omega (arith, e, from))
-            ∙ s .above k (omega (arith, from, turn-above (s .walk) some));
+            ∙ s .above k (omega (arith, from, turn-above w some));
       }

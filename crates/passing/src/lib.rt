@@ -1,0 +1,66 @@
+// Passing the entries of a message as it is handed: what it names leaves the barrier, and the floor rises
+// to the largest entry that was missed. An internal crate.
+// Preconditions: readable frames; the calls of a panel refuse anything else.
+use numbers::number_at;
+ghost use mathlib.Core.Path.{_≡_};
+ghost use Prim.Native.Nat.{max};
+ghost use lib.ListN.{getD};
+ghost use Rattle.frame.specs.Reading.{messageIn};
+ghost use Rattle.rules.specs.Handing.{remains, shortened, missedEntry, missed};
+ghost use Rattle.slots.specs.Slots.{Reads};
+
+// What is left of a barrier entry, where a message carries an entry for the same panel: none, which is
+// 0, if it is at most that one.
+fn remaining(entry: u32, carried: u32) -> u32
+    ensures { λ r. ⌜ r ≡ remains entry carried ⌝ }
+{
+    if entry <= carried {
+        return 0;
+    }
+    entry
+}
+
+// The floor, where a message carries an entry for a panel of that mark: it rises to the entry, if that
+// has lapsed and the mark has not reached it. (An entry that has lapsed by the floor raises nothing.)
+fn raised(floor: u32, time: u32, mark: u32, entry: u32) -> u32
+    ensures { λ r. ⌜ r ≡ max floor (missedEntry time floor mark entry) ⌝ }
+{
+    if entry <= mark {
+        return floor;
+    }
+    if entry <= floor {
+        return floor;
+    }
+    if time <= entry {
+        return floor;
+    }
+    entry
+}
+
+// Goes through the entries that the message of a readable frame carries, from set bit to set bit of its
+// mask: removes each barrier entry that is at most the entry for the same panel, and answers the floor,
+// risen to the largest entry that was missed.
+pub fn pass_entries(
+    time: u32,
+    floor: u32,
+    marks: &[u32; 64],
+    barrier: &mut [u32; 64],
+    frame: &[u8],
+) -> u32
+    requires { ⌜ Reads (now frame) ⌝ }
+    ensures { λ r. ⌜ (now (barrier .exit) ≡ shortened (now (barrier .entry)) (messageIn 4 (now (frame .entry)) .entries))
+        × (r ≡ max floor (missed time floor (λ panel. getD (now (marks .entry)) panel 0) (messageIn 4 (now (frame .entry)) .entries))) ⌝ }
+{
+    let mut bits = number_at(frame, 10, 8);
+    let mut passed = 0;
+    let mut risen = floor;
+    while bits != 0 {
+        let panel = u64::trailing_zeros(bits) as usize;
+        let carried = number_at(frame, 18 + 4 * passed, 4) as u32;
+        barrier[panel] = remaining(barrier[panel], carried);
+        risen = raised(risen, time, marks[panel], carried);
+        bits = bits & (bits - 1);
+        passed += 1;
+    }
+    risen
+}

@@ -1,0 +1,2 @@
+-- The answer of a set-back call.
+pub mod Answer

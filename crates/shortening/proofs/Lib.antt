@@ -1,2 +1,0 @@
--- Laws of a barrier that is shortened by the entries of a frame.
-pub mod Shortening

@@ -78,10 +78,10 @@ archive() {
     mv "$built/sources" "$built/$1.made"
 }
 
-# One archive, with the objects of six.
+# One archive, with the objects of seven.
 mkdir -p "$built"
 rm -f "$built"/*.o "$built/libpanel.a"
-for crate in exports beacon tracing frame log_records bundle; do
+for crate in exports beacon setting_back tracing frame log_records bundle; do
     archive $crate
     (cd "$built" && $ar x "../staticlib/lib$crate.a")
 done

@@ -4,10 +4,11 @@
  * Each panel of a farm keeps a record. panel_fresh makes it; panel_send writes the frame of an own
  * message, panel_beacon that of a status beacon, panel_receive takes a frame that came in,
  * panel_clock sets the time. Each of these four hands messages: it writes their log records, in the
- * order of cause. A message that comes before its cause waits in the record. panel_trace changes
- * nothing: it tells a technician what a receive of a frame would answer, and whether its message is
- * ready. panel_log_record reads a log, panel_bundle_next a bundle of frames, and panel_frame_check
- * looks at the bytes of a frame alone.
+ * order of cause. A message that comes before its cause waits in the record. Two calls are for a
+ * technician: panel_set_back lowers the time of a panel whose clock was wrong, and hands nothing;
+ * panel_trace changes nothing: it tells what a receive of a frame would answer, and whether its
+ * message is ready. panel_log_record reads a log, panel_bundle_next a bundle of frames, and
+ * panel_frame_check looks at the bytes of a frame alone.
  *
  * Example, a whole program. It prints "3 7200 OK" and "21 bytes to pass on". Compile it with
  * cc program.c $(pkg-config --cflags --libs panel)   (-lpanel alone may find ncurses' libpanel).
@@ -58,12 +59,14 @@
  * entry keeps its barrier entry. So a frame names only messages that no message handed after them
  * names; it may still have PANEL_FRAME_MAX bytes. Nothing else takes barrier entries away but a
  * send, which empties the barrier: no message that waits, is dropped or is refused, and no time.
+ * Handing may also raise the floor of the record (see below, setting a clock back).
  *
- * Old and new panels. A panel of version 0.5 removes nothing as it hands a message, and so sends
- * longer frames; in all else it is as this one. The two can share a farm: each reads the frames of
- * the other, no setting is needed, and the causal order of the logs holds in every mixture of the
- * two. A panel may go on with the record that version 0.5 left, also while messages wait. (Panels
- * before 0.5 differ in more: they take deadlines far ahead.)
+ * Old and new panels. A panel of version 0.6 has no floor, and its clock can't be set back; one of
+ * version 0.5 also removes nothing as it hands a message, and so sends longer frames. In all else
+ * they are as this one: without a set back the floor makes no difference. They can share a farm:
+ * each reads the frames of the others, no setting is needed, and the causal order of the logs holds
+ * in every mixture. A panel can't go on with the record that an older version left: it has no floor
+ * (PANEL_VERSION). (Panels before 0.5 differ in more: they take deadlines far ahead.)
  *
  * Deadlines far ahead. A panel with a wrong year would keep dead notes alive for everybody, so a
  * receive refuses, with 32, a deadline above time + PANEL_FARTHEST_AHEAD.
@@ -73,18 +76,34 @@
  *   enough: whoever carries it should not throw it away.
  * - Messages that are waiting or logged already stay, however far ahead they are.
  * - A send's deadline is above high, and so may be further ahead than that. Then the other panels
- *   refuse it until their time is near enough. (So it is with all that a panel sends whose record
- *   comes from an older version and has the high of a wrong year.)
+ *   refuse it until their time is near enough. (So it is with all that a panel sends which has the
+ *   high of a wrong year.)
  * - What 32 tells a technician: the clock of the sender, or of a panel whose message the sender
- *   had, is ahead; or the clock of this panel is behind, or was never set.
+ *   had, is or was ahead; or the clock of this panel is behind, or was never set.
+ *
+ * Setting a clock back. A clock once set to a wrong year leaves a panel deaf: by that year every
+ * message has lapsed (21), and panel_clock does not lower the time. panel_set_back does. So that
+ * the log keeps the order of cause, the record has a floor: the largest deadline that the log went
+ * without. When a message is handed, the floor rises to the largest of its entries that had lapsed
+ * and that the mark of the entry's panel had not reached; it never falls. A deadline has lapsed if
+ * it is below the time or at most the floor. After a set back:
+ * - A message with a deadline of at most the floor, whatever its source, is still refused with 21:
+ *   it may be a cause of one that is in the log.
+ * - A message with a deadline above the floor is taken as at any panel of this time, and stands in
+ *   order, also if it was refused with 21 or dropped before. So pass the panel its frame again.
+ * - If the log went without a message of the wrong year, the floor is of that year, and the panel
+ *   stays deaf.
+ * - The deadlines of own sends stay above high. If a message of the wrong year is in the log, they
+ *   are far ahead, and the other panels refuse them with 32.
+ * - Messages that wait stay, however far ahead they are by the lower time.
  *
  * Storing a record. It is plain data without pointers. It may be copied, or saved as its
  * sizeof(Panel) bytes and read back by the same version of this header, or by a later one that says
  * so below (PANEL_VERSION). Go on with the record as the last call left it, never with an older
  * copy, which would hand messages again and give out a deadline twice: so save it, and the log
  * records, before the frame is passed on. A record that is broken, as the words of 26 say, is
- * refused with that number by each of the four calls. Other damage, as in the time, they can't see:
- * keep a checksum beside the record.
+ * refused with that number by each of the five calls that change it. Other damage, as in the time
+ * or the floor, they can't see: keep a checksum beside the record.
  *
  * Processor. The archive is for x86-64 with the System V calling convention, as on 64-bit Linux,
  * and for no other: the compiler that comes with the proofs makes code for that one only. The
@@ -111,12 +130,12 @@ extern "C" {
 /* ---- Version ---- */
 
 /* Major 0, as the layout of the record still changes with coming versions: a record that another
-   version saved is not to be read, but that 0.6 reads those of 0.2 to 0.5, which have its layout.
-   Frames, bundles and logs keep the form of document 01. */
+   version saved is not to be read. 0.7 reads none of 0.6 or before: they have no floor, and another
+   size. Frames, bundles and logs keep the form of document 01. */
 #define PANEL_VERSION_MAJOR 0
-#define PANEL_VERSION_MINOR 6
+#define PANEL_VERSION_MINOR 7
 #define PANEL_VERSION_PATCH 0
-#define PANEL_VERSION "0.6.0"
+#define PANEL_VERSION "0.7.0"
 
 /* ---- Sizes ---- */
 
@@ -171,7 +190,8 @@ typedef enum PanelNumber {
 
     /* because of the state; 32 is looked at directly after 21 */
     PANEL_REFUSED_OWN_SOURCE = 20,        /* the frame's source is the own number */
-    PANEL_REFUSED_LAPSED = 21,            /* the message has lapsed */
+    PANEL_REFUSED_LAPSED = 21,            /* the message has lapsed: its deadline is below the time
+                                             or at most the floor */
     PANEL_REFUSED_HAD_ALREADY = 22,       /* its deadline is at most its source's mark, or it is
                                              waiting already */
     PANEL_REFUSED_LIST_FULL = 23,         /* 32 are waiting and this one is not ready */
@@ -201,19 +221,22 @@ static inline const char *panel_number_text(PanelNumber number);
 /* Any field may be read; only the calls change it. Times and deadlines are whole seconds. */
 typedef struct Panel {
     uint8_t own;                      /* own number */
-    uint32_t time;                    /* the last clock reading that was accepted, at first 0 */
+    uint32_t time;                    /* the last clock reading that was accepted, or the lower one
+                                         of a set back; at first 0 */
     uint32_t high;                    /* the largest deadline in the log, or 0 */
     size_t count;                     /* how many messages are waiting */
     uint32_t marks[PANEL_PANELS];     /* the largest deadline in the log from each source, or 0 */
     uint32_t barrier[PANEL_PANELS];   /* the entries that the next frame carries, or 0 */
     uint8_t slots[PANEL_SLOTS_BYTES]; /* the frames of the waiting messages, in the order taken;
                                          what stands behind them is no part of the record */
+    uint32_t floor;                   /* the largest deadline that the log went without, or 0 */
 } Panel;
 
 /*
- * Makes a fresh panel: time 0, high 0, all marks and barrier entries 0, nothing waiting. It sets
- * every byte of the record, those between the fields too, whatever was there. Give it a clock
- * reading before the first frame is received (see above, deadlines far ahead).
+ * Makes a fresh panel: time 0, high 0, all marks and barrier entries 0, nothing waiting, floor 0.
+ * It sets every byte of the record, those between the fields and behind them too, whatever was
+ * there. Give it a clock reading before the first frame is received (see above, deadlines far
+ * ahead).
  * Refused with 11; the record is then a fresh panel 0.
  */
 PANEL_ANSWER PANEL_NOT_NULL
@@ -260,22 +283,39 @@ static inline PanelAnswer panel_beacon(Panel *panel, const uint8_t *payload, siz
  * Then the panel settles: `count` log records, 0 to 33, stand one after another from the start of
  * the output, and the bytes behind them keep their content.
  * Refused with the first of 26, 10, 1 to 8 as by panel_frame_check, 20, 21, 32, 22, 23 that
- * applies. A frame that was refused with 32 may be received again when the time is nearer.
+ * applies. A frame that was refused with 32 may be received again when the time is nearer, one that
+ * was refused with 21 after a set back.
  */
 PANEL_ANSWER PANEL_NOT_NULL
 static inline PanelAnswer panel_receive(Panel *panel, const uint8_t *frame, size_t frame_length,
                                         uint8_t *output, size_t output_length);
 
 /*
- * Sets the time. Waiting messages whose deadline is below it have lapsed: they are dropped, and
- * never handed. Then the panel settles, as entries below the time are waited for no longer: `count`
- * log records, 0 to 32, stand one after another from the start of the output, and the bytes behind
- * them keep their content.
- * Refused with the first of 26, 10, 25 that applies. The same time again is accepted.
+ * Sets the time. Waiting messages that have lapsed by then, as their deadline is below the time or
+ * at most the floor, are dropped and not handed; after a set back such a message may be received
+ * again. Then the panel settles, as entries that have lapsed are waited for no longer: `count` log
+ * records, 0 to 32, stand one after another from the start of the output, and the bytes behind them
+ * keep their content.
+ * Refused with the first of 26, 10, 25 that applies. The same time again is accepted. A time that
+ * is wrong and above the right one is lowered by panel_set_back.
  */
 PANEL_ANSWER PANEL_NOT_NULL
 static inline PanelAnswer panel_clock(Panel *panel, uint32_t time, uint8_t *output,
                                       size_t output_length);
+
+/* ---- Setting a clock back ---- */
+
+/*
+ * Lowers the time: it becomes the lower of its own and the reading. This is the service call of a
+ * technician who finds a panel deaf, as its clock was once set to a wrong year: it refuses with 21
+ * whatever comes (see above). The reading is the right time; later ones go to panel_clock as ever.
+ * A reading above the time leaves the time as it is, and is accepted too.
+ * Nothing is handed and nothing is dropped. Every other byte of the record is as it was: the floor
+ * stays, and so do high, marks, barrier and waiting messages.
+ * Refused with 26.
+ */
+PANEL_ANSWER PANEL_NOT_NULL
+static inline PanelNumber panel_set_back(Panel *panel, uint32_t reading);
 
 /* ---- Trace ---- */
 
@@ -295,8 +335,8 @@ typedef struct PanelTrace {
  * the first entry that is not met, that one included, or through all. So where the message is not
  * ready, the entry at which it stopped is the visited-th set bit of the frame's mask, counted from
  * the lowest: of that panel the record lacks this message, and has had no later one.
- * `ready` and `visited` are answered whatever the number is, with 26 too, by the marks and the time
- * of the record. For bytes that panel_frame_check turns down they are false and 0.
+ * `ready` and `visited` are answered whatever the number is, with 26 too, by the marks, the time
+ * and the floor of the record. For bytes that panel_frame_check turns down they are false and 0.
  */
 PANEL_ANSWER PANEL_NOT_NULL
 static inline PanelTrace panel_trace(const Panel *panel, const uint8_t *frame, size_t frame_length);
@@ -385,36 +425,45 @@ typedef struct PanelBundleParts {
 
 PANEL_NOT_NULL
 uint8_t panel_fresh_parts(uint8_t number, uint8_t *own, uint32_t *time, uint32_t *high,
-                          size_t *count, uint32_t *marks, uint32_t *barrier, uint8_t *slots);
+                          size_t *count, uint32_t *marks, uint32_t *barrier, uint8_t *slots,
+                          uint32_t *floor);
 
 PANEL_NOT_NULL
 PanelPartsAnswer panel_send_parts(uint8_t own, uint32_t time, uint32_t *high, size_t *count,
                                   uint32_t *marks, uint32_t *barrier, uint8_t *slots,
-                                  const uint8_t *payload, size_t payload_length, uint16_t lifetime,
-                                  uint8_t *output, size_t output_length, uint8_t *frame,
-                                  size_t frame_length);
+                                  uint32_t *floor, const uint8_t *payload, size_t payload_length,
+                                  uint16_t lifetime, uint8_t *output, size_t output_length,
+                                  uint8_t *frame, size_t frame_length);
 
 PANEL_NOT_NULL
 PanelPartsAnswer panel_beacon_parts(uint8_t own, uint32_t time, uint32_t *high, size_t *count,
                                     uint32_t *marks, uint32_t *barrier, uint8_t *slots,
-                                    const uint8_t *payload, size_t payload_length, uint8_t *output,
-                                    size_t output_length, uint8_t *frame, size_t frame_length);
+                                    uint32_t *floor, const uint8_t *payload, size_t payload_length,
+                                    uint8_t *output, size_t output_length, uint8_t *frame,
+                                    size_t frame_length);
 
 PANEL_NOT_NULL
 PanelPartsAnswer panel_receive_parts(uint8_t own, uint32_t time, uint32_t *high, size_t *count,
                                      uint32_t *marks, uint32_t *barrier, uint8_t *slots,
-                                     const uint8_t *frame, size_t frame_length, uint8_t *output,
-                                     size_t output_length);
+                                     uint32_t *floor, const uint8_t *frame, size_t frame_length,
+                                     uint8_t *output, size_t output_length);
 
 PANEL_NOT_NULL
 PanelPartsAnswer panel_clock_parts(uint8_t own, uint32_t *time, uint32_t *high, size_t *count,
                                    uint32_t *marks, uint32_t *barrier, uint8_t *slots,
-                                   uint32_t reading, uint8_t *output, size_t output_length);
+                                   uint32_t *floor, uint32_t reading, uint8_t *output,
+                                   size_t output_length);
+
+PANEL_NOT_NULL
+uint8_t panel_set_back_parts(uint8_t own, uint32_t *time, uint32_t high, size_t count,
+                             const uint32_t *marks, const uint32_t *barrier, const uint8_t *slots,
+                             uint32_t floor, uint32_t reading);
 
 PANEL_NOT_NULL
 PanelTraceParts panel_trace_parts(uint8_t own, uint32_t time, uint32_t high, size_t count,
                                   const uint32_t *marks, const uint32_t *barrier,
-                                  const uint8_t *slots, const uint8_t *frame, size_t frame_length);
+                                  const uint8_t *slots, uint32_t floor, const uint8_t *frame,
+                                  size_t frame_length);
 
 PANEL_NOT_NULL
 uint8_t frame_check(const uint8_t *frame, size_t length);
@@ -446,7 +495,8 @@ PANEL_FIELD(Panel, count, 16, 8);
 PANEL_FIELD(Panel, marks, 24, 256);
 PANEL_FIELD(Panel, barrier, 280, 256);
 PANEL_FIELD(Panel, slots, 536, 9888);
-PANEL_ASSERT(sizeof(Panel) == 10424, "size of Panel");
+PANEL_FIELD(Panel, floor, 10424, 4);
+PANEL_ASSERT(sizeof(Panel) == 10432, "size of Panel");
 
 PANEL_FIELD(PanelPartsAnswer, count, 0, 8);
 PANEL_FIELD(PanelPartsAnswer, length, 8, 8);
@@ -499,7 +549,8 @@ static inline const char *panel_number_text(PanelNumber number)
         return "output under 1,254 bytes, or the frame buffer of a send under 307";
     case PANEL_REFUSED_PANEL_NUMBER: return "a panel number above 63 asked of a fresh panel";
     case PANEL_REFUSED_OWN_SOURCE: return "the frame's source is the own number";
-    case PANEL_REFUSED_LAPSED: return "the message has lapsed";
+    case PANEL_REFUSED_LAPSED:
+        return "the message has lapsed: its deadline is below the time or at most the floor";
     case PANEL_REFUSED_HAD_ALREADY:
         return "its deadline is at most its source's mark, or it is waiting already";
     case PANEL_REFUSED_LIST_FULL: return "32 are waiting and this one is not ready";
@@ -515,10 +566,14 @@ static inline const char *panel_number_text(PanelNumber number)
 
 static inline PanelNumber panel_fresh(Panel *panel, uint8_t number)
 {
-    memset(panel, 0, offsetof(Panel, marks)); /* for the bytes between the fields */
+    size_t end = offsetof(Panel, floor) + sizeof panel->floor;
+
+    /* for the bytes between the fields, and for those behind them */
+    memset(panel, 0, offsetof(Panel, marks));
+    memset((uint8_t *)panel + end, 0, sizeof *panel - end);
     return (PanelNumber)panel_fresh_parts(number, &panel->own, &panel->time, &panel->high,
                                           &panel->count, panel->marks, panel->barrier,
-                                          panel->slots);
+                                          panel->slots, &panel->floor);
 }
 
 static inline PanelAnswer panel_answer_of(PanelPartsAnswer parts)
@@ -532,9 +587,9 @@ static inline PanelAnswer panel_send(Panel *panel, const uint8_t *payload, size_
                                      uint8_t *frame, size_t frame_length)
 {
     return panel_answer_of(panel_send_parts(panel->own, panel->time, &panel->high, &panel->count,
-                                            panel->marks, panel->barrier, panel->slots, payload,
-                                            payload_length, lifetime, output, output_length, frame,
-                                            frame_length));
+                                            panel->marks, panel->barrier, panel->slots,
+                                            &panel->floor, payload, payload_length, lifetime,
+                                            output, output_length, frame, frame_length));
 }
 
 static inline PanelAnswer panel_beacon(Panel *panel, const uint8_t *payload, size_t payload_length,
@@ -542,32 +597,40 @@ static inline PanelAnswer panel_beacon(Panel *panel, const uint8_t *payload, siz
                                        size_t frame_length)
 {
     return panel_answer_of(panel_beacon_parts(panel->own, panel->time, &panel->high, &panel->count,
-                                              panel->marks, panel->barrier, panel->slots, payload,
-                                              payload_length, output, output_length, frame,
-                                              frame_length));
+                                              panel->marks, panel->barrier, panel->slots,
+                                              &panel->floor, payload, payload_length, output,
+                                              output_length, frame, frame_length));
 }
 
 static inline PanelAnswer panel_receive(Panel *panel, const uint8_t *frame, size_t frame_length,
                                         uint8_t *output, size_t output_length)
 {
     return panel_answer_of(panel_receive_parts(panel->own, panel->time, &panel->high, &panel->count,
-                                               panel->marks, panel->barrier, panel->slots, frame,
-                                               frame_length, output, output_length));
+                                               panel->marks, panel->barrier, panel->slots,
+                                               &panel->floor, frame, frame_length, output,
+                                               output_length));
 }
 
 static inline PanelAnswer panel_clock(Panel *panel, uint32_t time, uint8_t *output,
                                       size_t output_length)
 {
     return panel_answer_of(panel_clock_parts(panel->own, &panel->time, &panel->high, &panel->count,
-                                             panel->marks, panel->barrier, panel->slots, time,
-                                             output, output_length));
+                                             panel->marks, panel->barrier, panel->slots,
+                                             &panel->floor, time, output, output_length));
+}
+
+static inline PanelNumber panel_set_back(Panel *panel, uint32_t reading)
+{
+    return (PanelNumber)panel_set_back_parts(panel->own, &panel->time, panel->high, panel->count,
+                                             panel->marks, panel->barrier, panel->slots,
+                                             panel->floor, reading);
 }
 
 static inline PanelTrace panel_trace(const Panel *panel, const uint8_t *frame, size_t frame_length)
 {
     PanelTraceParts parts = panel_trace_parts(panel->own, panel->time, panel->high, panel->count,
-                                              panel->marks, panel->barrier, panel->slots, frame,
-                                              frame_length);
+                                              panel->marks, panel->barrier, panel->slots,
+                                              panel->floor, frame, frame_length);
     PanelTrace trace = {(PanelNumber)parts.number, parts.ready, parts.visited};
     return trace;
 }

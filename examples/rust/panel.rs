@@ -7,9 +7,10 @@
 //! returns 2 KB; a `Panel` has 10 KB, twice that while `Panel::fresh` makes it. Nothing is
 //! allocated.
 //!
-//! Panels of version 0.5 can share a farm with these: they send longer frames, as they remove no
-//! barrier entries when they hand a message, and in all else are the same. Each reads the frames of
-//! the other, no setting is needed, and the causal order of the logs holds in every mixture.
+//! Panels of version 0.6 and 0.5 can share a farm with these. They have no floor, and their clocks
+//! can't be set back; those of 0.5 also remove no barrier entries when they hand a message, and so
+//! send longer frames. In all else they are the same. Each reads the frames of the others, no
+//! setting is needed, and the causal order of the logs holds in every mixture.
 #![no_std]
 
 use core::fmt;
@@ -106,6 +107,7 @@ mod archive {
             marks: &mut [u32; PANELS],
             barrier: &mut [u32; PANELS],
             slots: &mut [u8; SLOTS],
+            floor: &mut u32,
         ) -> u8;
         pub fn panel_send_parts(
             own: u8,
@@ -115,6 +117,7 @@ mod archive {
             marks: &mut [u32; PANELS],
             barrier: &mut [u32; PANELS],
             slots: &mut [u8; SLOTS],
+            floor: &mut u32,
             payload: *const u8,
             payload_length: usize,
             lifetime: u16,
@@ -131,6 +134,7 @@ mod archive {
             marks: &mut [u32; PANELS],
             barrier: &mut [u32; PANELS],
             slots: &mut [u8; SLOTS],
+            floor: &mut u32,
             payload: *const u8,
             payload_length: usize,
             output: *mut u8,
@@ -146,6 +150,7 @@ mod archive {
             marks: &mut [u32; PANELS],
             barrier: &mut [u32; PANELS],
             slots: &mut [u8; SLOTS],
+            floor: &mut u32,
             frame: *const u8,
             frame_length: usize,
             output: *mut u8,
@@ -159,10 +164,22 @@ mod archive {
             marks: &mut [u32; PANELS],
             barrier: &mut [u32; PANELS],
             slots: &mut [u8; SLOTS],
+            floor: &mut u32,
             reading: u32,
             output: *mut u8,
             output_length: usize,
         ) -> Answer;
+        pub fn panel_set_back_parts(
+            own: u8,
+            time: &mut u32,
+            high: u32,
+            count: usize,
+            marks: &[u32; PANELS],
+            barrier: &[u32; PANELS],
+            slots: &[u8; SLOTS],
+            floor: u32,
+            reading: u32,
+        ) -> u8;
         pub fn panel_trace_parts(
             own: u8,
             time: u32,
@@ -171,6 +188,7 @@ mod archive {
             marks: &[u32; PANELS],
             barrier: &[u32; PANELS],
             slots: &[u8; SLOTS],
+            floor: u32,
             frame: *const u8,
             frame_length: usize,
         ) -> Trace;
@@ -255,7 +273,9 @@ impl fmt::Display for Refusal {
             }
             Refusal::PanelNumber => "a panel number above 63 asked of a fresh panel",
             Refusal::OwnSource => "the frame's source is the own number",
-            Refusal::Lapsed => "the message has lapsed",
+            Refusal::Lapsed => {
+                "the message has lapsed: its deadline is below the time or at most the floor"
+            }
             Refusal::HadAlready => {
                 "its deadline is at most its source's mark, or it is waiting already"
             }
@@ -470,6 +490,7 @@ pub struct Panel {
     marks: [u32; PANELS],
     barrier: [u32; PANELS],
     slots: [u8; SLOTS],
+    floor: u32,
 }
 
 impl Panel {
@@ -484,6 +505,7 @@ impl Panel {
             marks: [0; PANELS],
             barrier: [0; PANELS],
             slots: [0; SLOTS],
+            floor: 0,
         };
         // SAFETY: all that is lent are fields of one record.
         accepted(unsafe {
@@ -496,6 +518,7 @@ impl Panel {
                 &mut panel.marks,
                 &mut panel.barrier,
                 &mut panel.slots,
+                &mut panel.floor,
             )
         })?;
         Ok(panel)
@@ -520,6 +543,7 @@ impl Panel {
                 &mut self.marks,
                 &mut self.barrier,
                 &mut self.slots,
+                &mut self.floor,
                 payload.as_ptr(),
                 payload.len(),
                 lifetime,
@@ -552,6 +576,7 @@ impl Panel {
                 &mut self.marks,
                 &mut self.barrier,
                 &mut self.slots,
+                &mut self.floor,
                 payload.as_ptr(),
                 payload.len(),
                 log.bytes.as_mut_ptr(),
@@ -568,7 +593,8 @@ impl Panel {
 
     /// Receives the bytes of a frame, whole or damaged. A deadline above the time and
     /// `FARTHEST_AHEAD` is refused with `Refusal::TooFarAhead`. Such a frame may be received again,
-    /// and is taken once the time is near enough.
+    /// and is taken once the time is near enough. One that was refused with `Refusal::Lapsed` may
+    /// be received again after a set back.
     pub fn receive(&mut self, frame: &[u8]) -> Result<Log, Refusal> {
         let mut log = Log::new();
         // SAFETY: the frame is a slice, the output an array of this function; both are passed with
@@ -582,6 +608,7 @@ impl Panel {
                 &mut self.marks,
                 &mut self.barrier,
                 &mut self.slots,
+                &mut self.floor,
                 frame.as_ptr(),
                 frame.len(),
                 log.bytes.as_mut_ptr(),
@@ -593,7 +620,8 @@ impl Panel {
         Ok(log)
     }
 
-    /// Sets the time, drops what has lapsed, and settles.
+    /// Sets the time, drops what has lapsed, and settles. A time that is wrong and above the right
+    /// one is lowered by `set_back`.
     pub fn clock(&mut self, time: u32) -> Result<Log, Refusal> {
         let mut log = Log::new();
         // SAFETY: the output is an array of this function, passed with its length.
@@ -606,6 +634,7 @@ impl Panel {
                 &mut self.marks,
                 &mut self.barrier,
                 &mut self.slots,
+                &mut self.floor,
                 time,
                 log.bytes.as_mut_ptr(),
                 log.bytes.len(),
@@ -616,8 +645,30 @@ impl Panel {
         Ok(log)
     }
 
+    /// Lowers the time to the reading, for a technician who finds a panel deaf: its clock was once
+    /// set to a wrong year, and it refuses with `Refusal::Lapsed` whatever comes. A reading above
+    /// the time leaves it as it is. Nothing is handed and nothing is dropped. A message with a
+    /// deadline of at most the floor is still refused, one above it is taken, also if it was
+    /// dropped. Own deadlines stay above the largest in the log.
+    pub fn set_back(&mut self, reading: u32) -> Result<(), Refusal> {
+        // SAFETY: all that is lent are fields of one record.
+        accepted(unsafe {
+            archive::panel_set_back_parts(
+                self.own,
+                &mut self.time,
+                self.high,
+                self.count,
+                &self.marks,
+                &self.barrier,
+                &self.slots,
+                self.floor,
+                reading,
+            )
+        })
+    }
+
     /// Tells a technician what would become of a frame, whole or damaged, and changes nothing.
-    /// Whatever the refusal is, the message is ready or not by marks and time; bytes that
+    /// Whatever the refusal is, the message is ready or not by marks, time and floor; bytes that
     /// `frame_check` turns down are not ready, with no entry visited. Where a message is not ready,
     /// the entry at which the test stopped is the `visited`-th set bit of the frame's mask, counted
     /// from the lowest.
@@ -632,6 +683,7 @@ impl Panel {
                 &self.marks,
                 &self.barrier,
                 &self.slots,
+                self.floor,
                 frame.as_ptr(),
                 frame.len(),
             )
@@ -648,9 +700,15 @@ impl Panel {
         self.own
     }
 
-    /// The last clock reading that was accepted, at first 0.
+    /// The last clock reading that was accepted, or the lower one of a set back; at first 0.
     pub fn time(&self) -> u32 {
         self.time
+    }
+
+    /// The largest deadline that the log went without, or 0. A deadline has lapsed if it is below
+    /// the time or at most the floor.
+    pub fn floor(&self) -> u32 {
+        self.floor
     }
 
     /// How many messages are waiting.

@@ -1,8 +1,8 @@
 /*
  * The calls as a C program sees them: bench cases 1, 2 and 4 to 11 of document 01, the first two
- * with the deadlines of document 02, W-203; beacons; deadlines far ahead; shorter barriers; every
- * refusal and the order of refusals; traces, of every frame that is received and of some more; and
- * what a call leaves as it was.
+ * with the deadlines of document 02, W-203; beacons; deadlines far ahead; shorter barriers; clocks
+ * that are set back, and the floor; every refusal and the order of refusals; traces, of every frame
+ * that is received and of some more; and what a call leaves as it was.
  * Frames and log records are written in hexadecimal, by hand.
  */
 #include "checks.h"
@@ -13,7 +13,7 @@
 
 /* ---- Checks ---- */
 
-typedef enum { FRESH, SEND, BEACON, RECEIVE, CLOCK, TRACE, CALLS } Call;
+typedef enum { FRESH, SEND, BEACON, RECEIVE, CLOCK, SET_BACK, TRACE, CALLS } Call;
 
 static bool seen[CALLS][256]; /* which numbers each call answered */
 
@@ -49,6 +49,7 @@ static void same_record(int line, const Panel *given, const Panel *expected)
         same_bytes(line, "slot of a waiting message", given->slots + i * PANEL_SLOT_BYTES, slot,
                    2 + length, 0);
     }
+    same_number(line, "floor", given->floor, expected->floor);
 }
 
 /* ---- A call and what it is to give ---- */
@@ -66,6 +67,7 @@ typedef struct {
     Due marks[PANEL_PANELS];                /* up to the first deadline of 0 */
     Due barrier[PANEL_PANELS];              /* up to the first deadline of 0 */
     const char *waiting[PANEL_WAITING_MAX]; /* frames, up to the first null */
+    uint32_t floor;
 } Record;
 
 /* A call at one of the panels. Bytes are in hexadecimal, with blanks where they help to read. */
@@ -74,7 +76,7 @@ typedef struct {
     Call call;
     uint8_t at;                             /* the own number of the panel */
     const char *bytes;                      /* the payload or the frame that it is given */
-    uint32_t value;                         /* the lifetime or the time */
+    uint32_t value;                         /* the lifetime or the clock reading */
     bool broken;                            /* whether it is given a record with 33 waiting */
     int output_more;                        /* bytes of the output beyond the least */
     int buffer_more;                        /* bytes of the frame buffer beyond the least */
@@ -109,6 +111,7 @@ static Panel panel_of(uint8_t own, const Record *record)
         p.barrier[record->barrier[i].panel] = record->barrier[i].deadline;
     for (size_t i = 0; i < PANEL_WAITING_MAX && record->waiting[i] != NULL; i++)
         put_waiting(&p, record->waiting[i]);
+    p.floor = record->floor;
     return p;
 }
 
@@ -141,6 +144,8 @@ static PanelAnswer make(const Step *s, const uint8_t *bytes, size_t length)
                             buffer + MARGIN, buffer_length);
     if (s->call == RECEIVE)
         return panel_receive(&lent.panel, bytes, length, output + MARGIN, output_length);
+    if (s->call == SET_BACK)
+        return (PanelAnswer){.number = panel_set_back(&lent.panel, s->value)};
     return panel_clock(&lent.panel, s->value, output + MARGIN, output_length);
 }
 
@@ -190,16 +195,21 @@ static void check_margins(int line)
     same_bytes(line, "margin behind the record", lent.behind, expected, MARGIN, 0);
 }
 
-/* The record that was lent: after a refusal each of its bytes is as it was. */
+/* The record that was lent: after a refusal each of its bytes is as it was, after a set back each
+   but those of the time. */
 static void check_record(const Step *s, const Panel *given)
 {
+    uint8_t bytes[sizeof *given];
+
     check_margins(s->line);
-    if (s->number != PANEL_ACCEPTED) {
-        same_bytes(s->line, "record", &lent.panel, given, sizeof lent.panel, 0);
-        return;
+    memcpy(bytes, given, sizeof bytes);
+    if (s->number == PANEL_ACCEPTED) {
+        Panel expected = panel_of(s->at, &s->record);
+        same_record(s->line, &lent.panel, &expected);
+        memcpy(bytes + offsetof(Panel, time), &expected.time, sizeof expected.time);
     }
-    Panel expected = panel_of(s->at, &s->record);
-    same_record(s->line, &lent.panel, &expected);
+    if (s->number != PANEL_ACCEPTED || s->call == SET_BACK)
+        same_bytes(s->line, "record", &lent.panel, bytes, sizeof bytes, 0);
 }
 
 /* Traces a frame on a copy of a record. Every byte of both is as it was, and the number is that of
@@ -257,16 +267,23 @@ static void step(const Step *s)
         panel->count = count;
 }
 
-/* Paints what is no part of a fresh record: the slots, and the bytes between the fields. */
+/* Paints what is no part of a record: the slots behind their frames, and the bytes between the
+   fields and behind them. */
 static void paint_unused(Panel *panel)
 {
     uint8_t *bytes = (uint8_t *)panel;
     size_t own_end = offsetof(Panel, own) + sizeof panel->own;
     size_t high_end = offsetof(Panel, high) + sizeof panel->high;
+    size_t floor_end = offsetof(Panel, floor) + sizeof panel->floor;
 
-    paint(panel->slots, sizeof panel->slots);
+    for (size_t i = 0; i < PANEL_WAITING_MAX; i++) {
+        uint8_t *slot = panel->slots + i * PANEL_SLOT_BYTES;
+        size_t used = i < panel->count ? 2 + ((size_t)slot[0] << 8 | slot[1]) : 0;
+        paint(slot + used, PANEL_SLOT_BYTES - used);
+    }
     paint(bytes + own_end, offsetof(Panel, time) - own_end);
     paint(bytes + high_end, offsetof(Panel, count) - high_end);
+    paint(bytes + floor_end, sizeof *panel - floor_end);
 }
 
 /* Starts a part of the tests: 64 fresh panels. */
@@ -283,8 +300,10 @@ static void start(const char *name)
 static void run_from(const char *name, const Record *record, const Step *steps, size_t count)
 {
     start(name);
-    if (record != NULL)
+    if (record != NULL) {
         panels[3] = panel_of(3, record);
+        paint_unused(&panels[3]);
+    }
     for (size_t i = 0; i < count; i++)
         step(&steps[i]);
 }
@@ -302,6 +321,9 @@ static void run_from(const char *name, const Record *record, const Step *steps, 
 #define FROM_5_DUE_200_AFTER_1 "445259 0001 05 000000c8 0000000000000002 00000064 00"
 #define FROM_9_DUE_200_AFTER_1 "445259 0001 09 000000c8 0000000000000002 00000064 00"
 #define FROM_2_DUE_300_AFTER_1 "445259 0001 02 0000012c 0000000000000002 00000064 01 61"
+
+/* entries of 100, 101 and 102 of panels 3, 7 and 9 */
+#define AFTER_3_7_9 "445259 0001 14 000003e8 0000000000000288 00000064 00000065 00000066 00"
 
 #define EIGHT "6162636465666768"
 #define THIRTY_TWO EIGHT EIGHT EIGHT EIGHT
@@ -399,12 +421,14 @@ static const Step case_8[] = {
      .record = {.time = 100, .waiting = {FROM_5_DUE_200_AFTER_1}}},
     {__LINE__, CLOCK, .at = 4, .value = 101,
      .log = {"05 000000c8 00"},
-     .record = {.time = 101, .high = 200, .marks = {{5, 200}}, .barrier = {{5, 200}}}},
+     .record = {.time = 101, .high = 200, .marks = {{5, 200}}, .barrier = {{5, 200}},
+                .floor = 100}},
     {__LINE__, RECEIVE, .at = 6, .bytes = FROM_5_DUE_200_AFTER_1,
      .record = {.waiting = {FROM_5_DUE_200_AFTER_1}}},
     {__LINE__, CLOCK, .at = 6, .value = 200,
      .log = {"05 000000c8 00"},
-     .record = {.time = 200, .high = 200, .marks = {{5, 200}}, .barrier = {{5, 200}}}},
+     .record = {.time = 200, .high = 200, .marks = {{5, 200}}, .barrier = {{5, 200}},
+                .floor = 100}},
 };
 
 static const Step case_10[] = {
@@ -558,7 +582,7 @@ static const Step after_a_send[] = {
                 .barrier = {{2, 1000}, {5, 200}}, .waiting = {FROM_9_DUE_500_AFTER_1_AND_4}}},
     {__LINE__, CLOCK, .at = 2, .value = 51, .log = {"09 000001f4 00"},
      .record = {.time = 51, .high = 1000, .marks = {{1, 100}, {2, 1000}, {5, 200}, {9, 500}},
-                .barrier = {{2, 1000}, {5, 200}, {9, 500}}}},
+                .barrier = {{2, 1000}, {5, 200}, {9, 500}}, .floor = 50}},
 };
 
 /* ---- Beacons ---- */
@@ -661,6 +685,8 @@ static void beacon_as_a_send(void)
     same_as_send(__LINE__, &p);
     p.count = 33;
     same_as_send(__LINE__, &p); /* broken */
+    p = panel_of(5, &(Record){.time = 101, .high = 100, .barrier = {{1, 100}}});
+    same_as_send(__LINE__, &p); /* which raises the floor */
 
     part = "a lifetime of 0";
     same_given(&zero, &default_lifetime, &panels[5]);
@@ -749,9 +775,8 @@ static const Step sent_far_ahead[] = {
 /* A message that is far ahead at time 100, and waits for one of panel 2 with deadline 200. */
 #define FAR_AFTER_2 "445259 0001 05 00127566 0000000000000004 000000c8 00"
 
-/* Panel 3 at time 100 with a record of an older version, which took what was far ahead:
-   FROM_1_DUE_1209701 is in its log, and FAR_AFTER_2 waits. They stay. Copies of them are 32, and 22
-   when the time is near enough. */
+/* Panel 3 at time 100, after a set back: FROM_1_DUE_1209701, which is far ahead, is in its log, and
+   FAR_AFTER_2 waits. They stay. Copies of them are 32, and 22 when the time is near enough. */
 static const Record far_ahead_taken = {
     .time = 100, .high = 1209701, .marks = {{1, 1209701}}, .barrier = {{1, 1209701}},
     .waiting = {FAR_AFTER_2}};
@@ -786,7 +811,7 @@ static const Step far_ahead_handed[] = {
                 .barrier = {{1, 1209701}, {5, 1209702}}}},
     {__LINE__, CLOCK, .at = 3, .value = 201, .log = {"05 00127566 00"},
      .record = {.time = 201, .high = 1209702, .marks = {{1, 1209701}, {5, 1209702}},
-                .barrier = {{1, 1209701}, {5, 1209702}}}},
+                .barrier = {{1, 1209701}, {5, 1209702}}, .floor = 200}},
 };
 
 static void already_far_ahead(void)
@@ -905,8 +930,8 @@ static void old_and_new(const char *note_2)
     }
 }
 
-/* Panel 3 with a record of an older version, after the first two notes: the entry that the second
-   did not remove goes into the next frame. */
+/* Panel 3 with the entries that an older version has after the first two notes: that which the
+   second did not remove goes into the next frame. */
 static const Record of_older_version = {
     .high = 200, .marks = {{0, 100}, {1, 200}}, .barrier = {{0, 100}, {1, 200}}};
 
@@ -930,12 +955,12 @@ static const Step from_older_version[] = {
    is ready when 60 has lapsed. */
 #define OF_BORDERS {{0, 100}, {4, 101}, {5, 50}, {6, 70}}
 
-/* The record once the message of panel 1, or its next one, was handed: with this deadline, and this
-   mark of panel 5. */
-#define BORDERS_HANDED(now, deadline, mark_5) \
+/* The record once the message of panel 1, or its next one, was handed: with this deadline, this
+   mark of panel 5, and the floor that goes with this mark. */
+#define BORDERS_HANDED(now, deadline, mark_5, to) \
     {.time = now, .high = deadline, \
      .marks = {{0, 100}, {1, deadline}, {4, 101}, {5, mark_5}, {6, 70}}, \
-     .barrier = {{1, deadline}, {4, 101}, {6, 70}}}
+     .barrier = {{1, deadline}, {4, 101}, {6, 70}}, .floor = to}
 
 static const Record before_borders = {
     .time = 60, .high = 101, .marks = OF_BORDERS, .barrier = OF_BORDERS};
@@ -958,10 +983,10 @@ static const Step handed_at_once[] = {
     {__LINE__, RECEIVE, .at = 3, .bytes = BORDERS("04", "00000065"),
      .number = PANEL_REFUSED_HAD_ALREADY},
     {__LINE__, RECEIVE, .at = 3, .bytes = FROM_1_AT_BORDERS, .log = {"01 000000c8 00"},
-     .record = BORDERS_HANDED(61, 200, 50)},
+     .record = BORDERS_HANDED(61, 200, 50, 60)},
     /* the next of panel 1 names the one that was handed */
     {__LINE__, RECEIVE, .at = 3, .bytes = "445259 0001 01 0000012c 0000000000000002 000000c8 00",
-     .log = {"01 0000012c 00"}, .record = BORDERS_HANDED(61, 300, 50)},
+     .log = {"01 0000012c 00"}, .record = BORDERS_HANDED(61, 300, 50, 60)},
 };
 
 /* It waits, and is handed by settling: 60 lapses, or the message of panel 5 comes in. */
@@ -972,9 +997,9 @@ static const Step waits_first = {
 
 static const Step handed_by_settling[] = {
     {__LINE__, CLOCK, .at = 3, .value = 61, .log = {"01 000000c8 00"},
-     .record = BORDERS_HANDED(61, 200, 50)},
+     .record = BORDERS_HANDED(61, 200, 50, 60)},
     {__LINE__, RECEIVE, .at = 3, .bytes = "445259 0001 05 0000003c 0000000000000000 00",
-     .log = {"05 0000003c 00", "01 000000c8 00"}, .record = BORDERS_HANDED(60, 200, 60)},
+     .log = {"05 0000003c 00", "01 000000c8 00"}, .record = BORDERS_HANDED(60, 200, 60, 0)},
     /* or it is dropped */
     {__LINE__, CLOCK, .at = 3, .value = 201,
      .record = {.time = 201, .high = 101, .marks = OF_BORDERS, .barrier = OF_BORDERS}},
@@ -1032,9 +1057,428 @@ static void shorter_barriers(void)
     RUN("the busy yard", busy_yard);
     old_and_new(NOTE_2);
     old_and_new(NOTE_2_OLD);
-    RUN_FROM("a record of an older version", &of_older_version, from_older_version);
+    RUN_FROM("entries of an older version", &of_older_version, from_older_version);
     borders();
     each_panel_removed();
+}
+
+/* ---- Setting a clock back ---- */
+
+/* Panel 3 at a time, with a content in every field. Both waiting messages have lapsed at time 500,
+   and the second is ready at any time: a set back drops and hands neither. */
+#define AT_TIME(now) \
+    {.time = now, .high = 600, .marks = {{1, 100}, {3, 600}}, .barrier = {{1, 100}}, \
+     .waiting = {CHAIN_4, FROM_5_DUE_200_AFTER_1}, .floor = 90}
+
+static const Record before_set_back = AT_TIME(500);
+
+static const Step set_back[] = {
+    {__LINE__, SET_BACK, .at = 3, .value = 499, .broken = true,
+     .number = PANEL_REFUSED_RECORD_BROKEN},
+    {__LINE__, SET_BACK, .at = 3, .value = 501, .record = AT_TIME(500)},
+    {__LINE__, SET_BACK, .at = 3, .value = 500, .record = AT_TIME(500)},
+    {__LINE__, SET_BACK, .at = 3, .value = 499, .record = AT_TIME(499)},
+    {__LINE__, SET_BACK, .at = 3, .value = 500, .record = AT_TIME(499)},
+    {__LINE__, SET_BACK, .at = 3, .value = 89, .record = AT_TIME(89)}, /* below the floor */
+    {__LINE__, SET_BACK, .at = 3, .value = 0, .record = AT_TIME(0)},
+    {__LINE__, SET_BACK, .at = 3, .value = 4294967295, .record = AT_TIME(0)},
+    {__LINE__, SET_BACK, .at = 3, .value = 0, .record = AT_TIME(0)},
+};
+
+/* From each of some times to each of them. */
+static void lower_times(void)
+{
+    static const uint32_t times[] = {0, 1, 65535, 65536, 2147483647, 2147483648, 4294967294,
+                                     4294967295};
+
+    part = "the lower of two times";
+    for (size_t i = 0; i < COUNT(times); i++) {
+        for (size_t j = 0; j < COUNT(times); j++) {
+            Step s = {__LINE__, SET_BACK, .at = 3, .value = times[j],
+                      .record = AT_TIME(times[i < j ? i : j])};
+            Panel p = panel_of(3, &(Record)AT_TIME(times[i]));
+            paint_unused(&p);
+            call(&s, &p);
+        }
+    }
+}
+
+/* A message of panel 4 with an entry of 140 of panel 6, and three without entries. */
+#define FROM_4_DUE_150_AFTER_6 "445259 0001 04 00000096 0000000000000040 0000008c 00"
+#define FROM_6_DUE_140 "445259 0001 06 0000008c 0000000000000000 00"
+#define FROM_6_DUE_99 "445259 0001 06 00000063 0000000000000000 00"
+#define FROM_1_DUE_101 "445259 0001 01 00000065 0000000000000000 00"
+
+/* Panel 2 hands a message without the one of panel 1 that it names, and drops one; then its clock
+   is set to a wrong year, and back to 60. */
+static const Step deaf[] = {
+    {__LINE__, CLOCK, .at = 2, .value = 50, .record = {.time = 50}},
+    {__LINE__, RECEIVE, .at = 2, .bytes = FROM_5_DUE_200_AFTER_1,
+     .record = {.time = 50, .waiting = {FROM_5_DUE_200_AFTER_1}}},
+    {__LINE__, RECEIVE, .at = 2, .bytes = FROM_4_DUE_150_AFTER_6,
+     .record = {.time = 50, .waiting = {FROM_5_DUE_200_AFTER_1, FROM_4_DUE_150_AFTER_6}}},
+    {__LINE__, CLOCK, .at = 2, .value = 160, .log = {"05 000000c8 00"},
+     .record = {.time = 160, .high = 200, .marks = {{5, 200}}, .barrier = {{5, 200}},
+                .floor = 100}},
+    {__LINE__, CLOCK, .at = 2, .value = 31536000,
+     .record = {.time = 31536000, .high = 200, .marks = {{5, 200}}, .barrier = {{5, 200}},
+                .floor = 100}},
+    {__LINE__, RECEIVE, .at = 2, .bytes = FROM_1_DUE_700, .number = PANEL_REFUSED_LAPSED},
+    {__LINE__, RECEIVE, .at = 2, .bytes = FROM_4_DUE_150_AFTER_6, .number = PANEL_REFUSED_LAPSED},
+    {__LINE__, CLOCK, .at = 2, .value = 60, .number = PANEL_REFUSED_CLOCK_BACK},
+    {__LINE__, SET_BACK, .at = 2, .value = 60,
+     .record = {.time = 60, .high = 200, .marks = {{5, 200}}, .barrier = {{5, 200}},
+                .floor = 100}},
+    /* what the log went without is still refused, and what is earlier, of whatever panel */
+    {__LINE__, RECEIVE, .at = 2, .bytes = FROM_1_DUE_100, .number = PANEL_REFUSED_LAPSED},
+    {__LINE__, RECEIVE, .at = 2, .bytes = FROM_6_DUE_99, .number = PANEL_REFUSED_LAPSED},
+    /* what was dropped is taken again; an entry that has lapsed by the floor is met */
+    {__LINE__, RECEIVE, .at = 2, .bytes = FROM_4_DUE_150_AFTER_6,
+     .record = {.time = 60, .high = 200, .marks = {{5, 200}}, .barrier = {{5, 200}},
+                .waiting = {FROM_4_DUE_150_AFTER_6}, .floor = 100}},
+    {__LINE__, RECEIVE, .at = 2, .bytes = FROM_9_DUE_200_AFTER_1, .log = {"09 000000c8 00"},
+     .record = {.time = 60, .high = 200, .marks = {{5, 200}, {9, 200}},
+                .barrier = {{5, 200}, {9, 200}}, .waiting = {FROM_4_DUE_150_AFTER_6},
+                .floor = 100}},
+    /* later ones stand in order */
+    {__LINE__, RECEIVE, .at = 2, .bytes = FROM_1_DUE_101, .log = {"01 00000065 00"},
+     .record = {.time = 60, .high = 200, .marks = {{1, 101}, {5, 200}, {9, 200}},
+                .barrier = {{1, 101}, {5, 200}, {9, 200}}, .waiting = {FROM_4_DUE_150_AFTER_6},
+                .floor = 100}},
+    {__LINE__, RECEIVE, .at = 2, .bytes = FROM_6_DUE_140,
+     .log = {"06 0000008c 00", "04 00000096 00"},
+     .record = {.time = 60, .high = 200,
+                .marks = {{1, 101}, {4, 150}, {5, 200}, {6, 140}, {9, 200}},
+                .barrier = {{1, 101}, {4, 150}, {5, 200}, {9, 200}}, .floor = 100}},
+    /* the clock goes on as ever */
+    {__LINE__, CLOCK, .at = 2, .value = 59, .number = PANEL_REFUSED_CLOCK_BACK},
+    {__LINE__, CLOCK, .at = 2, .value = 61,
+     .record = {.time = 61, .high = 200,
+                .marks = {{1, 101}, {4, 150}, {5, 200}, {6, 140}, {9, 200}},
+                .barrier = {{1, 101}, {4, 150}, {5, 200}, {9, 200}}, .floor = 100}},
+};
+
+/* What panel 2 sends in the wrong year and after it is far ahead; what waits at panel 6 stays. */
+#define SENT_IN_WRONG_YEAR "445259 0001 02 01e133e4 0000000000000000 00"
+#define SENT_AFTER_IT "445259 0001 02 01e133e5 0000000000000004 01e133e4 00"
+#define WAITS_IN_WRONG_YEAR "445259 0001 01 01e13448 0000000000000008 01e13416 00"
+
+static const Step wrong_year[] = {
+    {__LINE__, CLOCK, .at = 2, .value = 31536000, .record = {.time = 31536000}},
+    {__LINE__, SEND, .at = 2, .bytes = "", .value = 100, .frame = SENT_IN_WRONG_YEAR,
+     .log = {"02 01e133e4 00"},
+     .record = {.time = 31536000, .high = 31536100, .marks = {{2, 31536100}},
+                .barrier = {{2, 31536100}}}},
+    {__LINE__, SET_BACK, .at = 2, .value = 100,
+     .record = {.time = 100, .high = 31536100, .marks = {{2, 31536100}},
+                .barrier = {{2, 31536100}}}},
+    {__LINE__, SEND, .at = 2, .bytes = "", .value = 100, .frame = SENT_AFTER_IT,
+     .log = {"02 01e133e5 00"},
+     .record = {.time = 100, .high = 31536101, .marks = {{2, 31536101}},
+                .barrier = {{2, 31536101}}}},
+    {__LINE__, CLOCK, .at = 4, .value = 100, .record = {.time = 100}},
+    {__LINE__, RECEIVE, .at = 4, .bytes = SENT_AFTER_IT, .number = PANEL_REFUSED_TOO_FAR_AHEAD},
+
+    {__LINE__, CLOCK, .at = 6, .value = 31536000, .record = {.time = 31536000}},
+    {__LINE__, RECEIVE, .at = 6, .bytes = WAITS_IN_WRONG_YEAR,
+     .record = {.time = 31536000, .waiting = {WAITS_IN_WRONG_YEAR}}},
+    {__LINE__, SET_BACK, .at = 6, .value = 100,
+     .record = {.time = 100, .waiting = {WAITS_IN_WRONG_YEAR}}},
+    {__LINE__, RECEIVE, .at = 6, .bytes = WAITS_IN_WRONG_YEAR,
+     .number = PANEL_REFUSED_TOO_FAR_AHEAD},
+    {__LINE__, CLOCK, .at = 6, .value = 200,
+     .record = {.time = 200, .waiting = {WAITS_IN_WRONG_YEAR}}},
+    /* handed in that year again, and set back: now the floor is of that year, and 21 before 32 */
+    {__LINE__, CLOCK, .at = 6, .value = 31536151, .log = {"01 01e13448 00"},
+     .record = {.time = 31536151, .high = 31536200, .marks = {{1, 31536200}},
+                .barrier = {{1, 31536200}}, .floor = 31536150}},
+    {__LINE__, SET_BACK, .at = 6, .value = 300,
+     .record = {.time = 300, .high = 31536200, .marks = {{1, 31536200}},
+                .barrier = {{1, 31536200}}, .floor = 31536150}},
+    {__LINE__, RECEIVE, .at = 6, .bytes = FROM_2_DUE_400, .number = PANEL_REFUSED_LAPSED},
+    {__LINE__, RECEIVE, .at = 6, .bytes = SENT_AFTER_IT, .number = PANEL_REFUSED_LAPSED},
+};
+
+/* ---- The floor ---- */
+
+/* The entries of AFTER_3_7_9 the other way round, and with the largest in the middle. */
+#define AFTER_9_7_3 "445259 0001 14 000003e8 0000000000000288 00000066 00000065 00000064 00"
+#define AFTER_7_LAST "445259 0001 14 000003e8 0000000000000288 00000065 00000066 00000064 00"
+
+/* Entries and deadlines on both sides of 2 to the power 31, and the last ones. */
+#define AFTER_2147483648 "445259 0001 05 80000002 0000000000000002 80000000 00"
+#define DUE_LAST_AFTER_LAST "445259 0001 05 ffffffff 0000000000000002 fffffffe 00"
+
+/* They wait for 100 of panel 6, and two of them for 200 of panel 1 too: the first meets that, if it
+   is handed before. */
+#define FROM_1_DUE_300_AFTER_6 "445259 0001 01 0000012c 0000000000000040 00000064 00"
+#define DUE_250_AFTER_1_6 "445259 0001 05 000000fa 0000000000000042 000000c8 00000064 00"
+#define DUE_350_AFTER_1_6 "445259 0001 05 0000015e 0000000000000042 000000c8 00000064 00"
+
+#define DUE_104_AFTER_103 "445259 0001 01 00000068 0000000000000002 00000067 00"
+
+/* A call at panel 2 on a record, how many messages it is to hand and to leave waiting, and which
+   floor it is to leave. */
+static const struct {
+    int line;
+    Call call;
+    const char *bytes;
+    uint32_t value;
+    Record given;
+    size_t count;
+    size_t waiting;
+    uint32_t floor;
+} floors[] = {
+    /* one entry that has lapsed: the mark below it, at it and above it */
+    {__LINE__, RECEIVE, FROM_5_DUE_200_AFTER_1, 0, {.time = 101}, 1, 0, 100},
+    {__LINE__, RECEIVE, FROM_5_DUE_200_AFTER_1, 0, {.time = 101, .high = 99, .marks = {{1, 99}}},
+     1, 0, 100},
+    {__LINE__, RECEIVE, FROM_5_DUE_200_AFTER_1, 0, {.time = 101, .high = 100, .marks = {{1, 100}}},
+     1, 0, 0},
+    {__LINE__, RECEIVE, FROM_5_DUE_200_AFTER_1, 0, {.time = 101, .high = 101, .marks = {{1, 101}}},
+     1, 0, 0},
+    /* whatever the marks of other panels, the barrier and high are */
+    {__LINE__, RECEIVE, FROM_5_DUE_200_AFTER_1, 0,
+     {.time = 101, .high = 199, .marks = {{0, 199}, {2, 199}, {5, 199}}, .barrier = {{1, 100}}},
+     1, 0, 100},
+    /* a floor below it, at it and above it */
+    {__LINE__, RECEIVE, FROM_5_DUE_200_AFTER_1, 0, {.time = 101, .floor = 99}, 1, 0, 100},
+    {__LINE__, RECEIVE, FROM_5_DUE_200_AFTER_1, 0, {.time = 101, .floor = 100}, 1, 0, 100},
+    {__LINE__, RECEIVE, FROM_5_DUE_200_AFTER_1, 0, {.time = 101, .floor = 199}, 1, 0, 199},
+    /* an entry that has lapsed by the floor alone is met; one above it, at the time, is not */
+    {__LINE__, RECEIVE, FROM_5_DUE_200_AFTER_1, 0, {.time = 0, .floor = 100}, 1, 0, 100},
+    {__LINE__, RECEIVE, FROM_5_DUE_200_AFTER_1, 0, {.time = 0, .floor = 199}, 1, 0, 199},
+    {__LINE__, RECEIVE, FROM_5_DUE_200_AFTER_1, 0, {.time = 0, .floor = 99}, 0, 1, 99},
+    {__LINE__, RECEIVE, FROM_5_DUE_200_AFTER_1, 0, {.time = 100, .floor = 99}, 0, 1, 99},
+    /* the largest of several that the log goes without, wherever it stands */
+    {__LINE__, RECEIVE, AFTER_3_7_9, 0, {.time = 103}, 1, 0, 102},
+    {__LINE__, RECEIVE, AFTER_9_7_3, 0, {.time = 103}, 1, 0, 102},
+    {__LINE__, RECEIVE, AFTER_7_LAST, 0, {.time = 103}, 1, 0, 102},
+    {__LINE__, RECEIVE, AFTER_3_7_9, 0, {.time = 103, .high = 102, .marks = {{9, 102}}}, 1, 0, 101},
+    {__LINE__, RECEIVE, AFTER_9_7_3, 0, {.time = 103, .high = 102, .marks = {{3, 102}}}, 1, 0, 101},
+    {__LINE__, RECEIVE, AFTER_7_LAST, 0, {.time = 103, .high = 102, .marks = {{7, 102}}},
+     1, 0, 101},
+    {__LINE__, RECEIVE, AFTER_3_7_9, 0, {.time = 103, .high = 102, .marks = {{7, 101}, {9, 102}}},
+     1, 0, 100},
+    {__LINE__, RECEIVE, AFTER_3_7_9, 0,
+     {.time = 103, .high = 102, .marks = {{3, 100}, {7, 101}, {9, 102}}}, 1, 0, 0},
+    /* entries that have not lapsed, and are met by the mark */
+    {__LINE__, RECEIVE, AFTER_3_7_9, 0, {.time = 101, .high = 102, .marks = {{7, 101}, {9, 102}}},
+     1, 0, 100},
+    /* one that waits raises nothing yet */
+    {__LINE__, RECEIVE, AFTER_3_7_9, 0, {.time = 101}, 0, 1, 0},
+    {__LINE__, RECEIVE, AFTER_9_7_3, 0, {.time = 101, .floor = 9}, 0, 1, 9},
+    /* the mark before this handing: an entry of its own panel */
+    {__LINE__, RECEIVE, CHAIN_4, 0, {.time = 103}, 1, 0, 102},
+    {__LINE__, RECEIVE, CHAIN_4, 0, {.time = 103, .high = 102, .marks = {{1, 102}}}, 1, 0, 0},
+    /* on both sides of 2 to the power 31, and the last deadlines */
+    {__LINE__, RECEIVE, AFTER_2147483648, 0, {.time = 2147483649, .floor = 2147483647},
+     1, 0, 2147483648},
+    {__LINE__, RECEIVE, AFTER_2147483648, 0,
+     {.time = 2147483649, .high = 2147483648, .marks = {{1, 2147483648}}, .floor = 2147483647},
+     1, 0, 2147483647},
+    {__LINE__, RECEIVE, AFTER_2147483648, 0,
+     {.time = 2147483649, .high = 2147483647, .marks = {{1, 2147483647}}}, 1, 0, 2147483648},
+    {__LINE__, RECEIVE, DUE_LAST_AFTER_LAST, 0, {.time = 4294967295}, 1, 0, 4294967294},
+    {__LINE__, RECEIVE, FROM_1_DUE_LAST, 0, {.time = 4294967295, .floor = 4294967294},
+     1, 0, 4294967294},
+    /* a message that waits raises it when it is handed: by a clock call, by what it waits for */
+    {__LINE__, CLOCK, NULL, 100, {.waiting = {FROM_5_DUE_200_AFTER_1}}, 0, 1, 0},
+    {__LINE__, CLOCK, NULL, 101, {.waiting = {FROM_5_DUE_200_AFTER_1}}, 1, 0, 100},
+    {__LINE__, CLOCK, NULL, 201, {.waiting = {FROM_5_DUE_200_AFTER_1}}, 0, 0, 0},
+    {__LINE__, RECEIVE, FROM_1_DUE_100, 0, {.waiting = {FROM_5_DUE_200_AFTER_1}}, 2, 0, 0},
+    {__LINE__, RECEIVE, FROM_6_DUE_140, 0, {.time = 101, .waiting = {FROM_5_DUE_200_AFTER_1}},
+     2, 0, 100},
+    /* the mark before this handing, as those handed by the same call left it */
+    {__LINE__, CLOCK, NULL, 201, {.waiting = {DUE_350_AFTER_1_6, FROM_1_DUE_300_AFTER_6}},
+     2, 0, 100},
+    {__LINE__, CLOCK, NULL, 201, {.waiting = {DUE_250_AFTER_1_6, FROM_1_DUE_300_AFTER_6}},
+     2, 0, 200},
+    /* a send whose entries are in the log; entries above the mark, as no list leaves them, that
+       have lapsed or not; the own one, by the mark before this handing; the largest */
+    {__LINE__, SEND, "", 9, {.time = 101, .high = 100, .marks = {{1, 100}}, .barrier = {{1, 100}}},
+     1, 0, 0},
+    {__LINE__, SEND, "", 9, {.time = 101, .high = 100, .marks = {{1, 99}}, .barrier = {{1, 100}}},
+     1, 0, 100},
+    {__LINE__, SEND, "", 9, {.time = 100, .high = 100, .marks = {{1, 99}}, .barrier = {{1, 100}}},
+     1, 0, 0},
+    {__LINE__, SEND, "", 9, {.time = 100, .high = 100, .barrier = {{1, 100}}, .floor = 100},
+     1, 0, 100},
+    {__LINE__, SEND, "", 9, {.time = 101, .high = 100, .barrier = {{2, 100}}}, 1, 0, 100},
+    {__LINE__, SEND, "", 9,
+     {.time = 102, .high = 103, .marks = {{4, 101}},
+      .barrier = {{1, 99}, {3, 100}, {4, 101}, {5, 102}, {6, 103}}}, 1, 0, 100},
+    {__LINE__, SEND, "", 9, {.time = 102, .high = 101, .barrier = {{63, 101}}, .floor = 50},
+     1, 0, 101},
+    {__LINE__, BEACON, "", 0, {.time = 101, .high = 100, .marks = {{1, 99}}, .barrier = {{1, 100}}},
+     1, 0, 100},
+    /* and what a send settles */
+    {__LINE__, SEND, "", 9, {.time = 101, .waiting = {FROM_5_DUE_200_AFTER_1}}, 2, 0, 100},
+    /* what a clock call drops by the floor alone, before it settles: at it, and not above it */
+    {__LINE__, CLOCK, NULL, 0, {.waiting = {CHAIN_4, DUE_104_AFTER_103}, .floor = 101}, 0, 2, 101},
+    {__LINE__, CLOCK, NULL, 0, {.waiting = {CHAIN_4, DUE_104_AFTER_103}, .floor = 102}, 2, 0, 102},
+    {__LINE__, CLOCK, NULL, 0, {.waiting = {CHAIN_4, DUE_104_AFTER_103}, .floor = 103}, 1, 0, 103},
+    {__LINE__, CLOCK, NULL, 0, {.waiting = {CHAIN_4, DUE_104_AFTER_103}, .floor = 104}, 0, 0, 104},
+    {__LINE__, CLOCK, NULL, 0,
+     {.waiting = {FROM_1_DUE_LAST, DUE_LAST_AFTER_LAST}, .floor = 4294967295},
+     0, 0, 4294967295},
+    {__LINE__, CLOCK, NULL, 4294967295,
+     {.waiting = {FROM_1_DUE_LAST, DUE_LAST_AFTER_LAST}, .floor = 4294967294},
+     2, 0, 4294967294},
+    /* a receive drops nothing: as it settles it hands what has lapsed by the floor */
+    {__LINE__, RECEIVE, DUE_104_AFTER_103, 0, {.waiting = {CHAIN_4}, .floor = 103}, 2, 0, 103},
+    /* a send is not held to the floor, and a set back leaves it */
+    {__LINE__, SEND, "", 9, {.time = 100, .floor = 4294967295}, 1, 0, 4294967295},
+    {__LINE__, SET_BACK, NULL, 9, {.time = 100, .floor = 4294967295}, 0, 0, 4294967295},
+};
+
+static void each_floor(void)
+{
+    uint8_t bytes[BYTES_MAX];
+
+    part = "floors";
+    for (size_t i = 0; i < COUNT(floors); i++) {
+        Step s = {floors[i].line, floors[i].call, .value = floors[i].value};
+        size_t length = floors[i].bytes != NULL ? put_bytes(bytes, floors[i].bytes) : 0;
+        Panel p = panel_of(2, &floors[i].given);
+        paint_unused(&p);
+        lend(&p);
+        PanelAnswer answer = make(&s, bytes, length);
+        same_answer(s.line, s.call, answer.number, PANEL_ACCEPTED);
+        same_number(s.line, "count of log records", answer.count, floors[i].count);
+        same_number(s.line, "number of waiting messages", lent.panel.count, floors[i].waiting);
+        same_number(s.line, "floor", lent.panel.floor, floors[i].floor);
+        check_margins(s.line);
+    }
+}
+
+/* Panel 2 at time 101 has had 100 of each panel but those of a mask, of which it has had 99. It
+   takes a message that names 100 of each; and panel 20, with the same record, sends it. */
+static void gone_without(uint64_t mask)
+{
+    static char frame[2 * PANEL_FRAME_MAX + PANEL_PANELS + 16];
+    Step s = {__LINE__, RECEIVE, .at = 2, .bytes = frame, .log = {"14 000003e8 00"},
+              .record = {.time = 101, .high = 1000, .barrier = {{20, 1000}},
+                         .floor = mask != 0 ? 100 : 0}};
+    Panel p = panel_of(2, &(Record){.time = 101, .high = 100});
+
+    for (uint8_t i = 0; i < PANEL_PANELS; i++) {
+        p.marks[i] = (mask >> i & 1) != 0 ? 99 : 100;
+        p.barrier[i] = 100;
+        s.record.marks[i] = (Due){i, i == 20 ? 1000 : p.marks[i]};
+    }
+    put_entries(frame, sizeof frame, UINT64_MAX);
+    call(&s, &p);
+    p.own = s.at = 20;
+    s.call = SEND;
+    s.bytes = "";
+    s.value = 899;
+    s.frame = frame;
+    call(&s, &p);
+}
+
+/* None, one of them, all but one, and all. */
+static void each_panel_gone_without(void)
+{
+    part = "entries of each panel that the log goes without";
+    gone_without(0);
+    for (unsigned s = 0; s < PANEL_PANELS; s++) {
+        gone_without((uint64_t)1 << s);
+        gone_without(~((uint64_t)1 << s));
+    }
+    gone_without(UINT64_MAX);
+}
+
+/* Panel 2 with a floor receives a message of panel 1: 21 up to it, one above it is taken. */
+static void receive_above(int line, uint32_t time, uint32_t floor, uint32_t deadline)
+{
+    char frame[64], log[16];
+    Step s = {line, RECEIVE, .at = 2, .bytes = frame, .number = PANEL_REFUSED_LAPSED};
+    Panel p = panel_of(2, &(Record){.time = time, .floor = floor});
+
+    snprintf(frame, sizeof frame, "445259 0001 01 %08x 0000000000000000 00", deadline);
+    snprintf(log, sizeof log, "01 %08x 00", deadline);
+    if (deadline > floor) {
+        s.number = PANEL_ACCEPTED;
+        s.log[0] = log;
+        s.record = (Record){.time = time, .high = deadline, .marks = {{1, deadline}},
+                            .barrier = {{1, deadline}}, .floor = floor};
+    }
+    call(&s, &p);
+}
+
+/* At the floor, below it and above it, with the time at the floor or as far behind it as one above
+   it is taken. */
+static void up_to_the_floor(void)
+{
+    static const uint32_t list[] = {1, 2, 100, 1209599, 2147483647, 2147483648, 4294967293,
+                                    4294967294};
+
+    part = "deadlines about the floor";
+    for (size_t i = 0; i < COUNT(list); i++) {
+        uint32_t floor = list[i], far = PANEL_FARTHEST_AHEAD - 1;
+        uint32_t behind = floor > far ? floor - far : 0;
+        receive_above(__LINE__, floor, floor, floor);
+        receive_above(__LINE__, floor, floor, floor + 1);
+        receive_above(__LINE__, behind, floor, 1);
+        receive_above(__LINE__, behind, floor, floor - 1 > 0 ? floor - 1 : 1);
+        receive_above(__LINE__, behind, floor, floor);
+        receive_above(__LINE__, behind, floor, floor + 1);
+    }
+    receive_above(__LINE__, 0, 4294967295, 1);
+    receive_above(__LINE__, 0, 4294967295, 4294967295);
+    receive_above(__LINE__, 4294967295, 4294967295, 4294967295);
+}
+
+/* Panel 3 has a message of panel 1 in its log that is far ahead, and one of its own: 20, 21, 32 and
+   22 in this order, as the floor reaches the message or not. */
+static const Step floor_order[] = {
+    {__LINE__, RECEIVE, .at = 3, .bytes = FROM_1_DUE_1209701, .broken = true, .output_more = -1,
+     .number = PANEL_REFUSED_RECORD_BROKEN},
+    {__LINE__, RECEIVE, .at = 3, .bytes = FROM_1_DUE_1209701, .output_more = -1,
+     .number = PANEL_REFUSED_BUFFER_SHORT},
+    {__LINE__, RECEIVE, .at = 3, .bytes = FROM_1_DUE_1209701 "00",
+     .number = PANEL_REFUSED_FRAME_LEFT_OVER},
+    {__LINE__, RECEIVE, .at = 3, .bytes = "445259 0001 03 00127565 0000000000000000 00",
+     .number = PANEL_REFUSED_OWN_SOURCE},
+    {__LINE__, RECEIVE, .at = 3, .bytes = FROM_1_DUE_1209701, .number = PANEL_REFUSED_LAPSED},
+    {__LINE__, RECEIVE, .at = 3, .bytes = FROM_1_DUE_1209700, .number = PANEL_REFUSED_LAPSED},
+    {__LINE__, RECEIVE, .at = 3, .bytes = FAR_AFTER_2, .number = PANEL_REFUSED_TOO_FAR_AHEAD},
+    /* refused, and dropped by nothing */
+    {__LINE__, CLOCK, .at = 3, .value = 99, .number = PANEL_REFUSED_CLOCK_BACK},
+};
+
+/* With a full list: 21 up to the floor, 23 for an entry above it, and one at it is met. */
+static void full_floor(void)
+{
+    start("a full list and the floor");
+    fill();
+    panels[7].floor = full.record.floor = 40;
+    receive_full(__LINE__, "445259 0001 04 00000028 0000000000000040 00000027 00",
+                 PANEL_REFUSED_LAPSED);
+    receive_full(__LINE__, "445259 0001 04 00000065 0000000000000040 00000029 00",
+                 PANEL_REFUSED_LIST_FULL);
+    full.log[0] = "04 00000065 00";
+    full.record.high = 101;
+    full.record.marks[0] = full.record.barrier[0] = (Due){4, 101};
+    receive_full(__LINE__, "445259 0001 04 00000065 0000000000000040 00000028 00", PANEL_ACCEPTED);
+}
+
+static void setting_back(void)
+{
+    static const Record far_and_floor = {
+        .time = 100, .high = 1209701, .marks = {{1, 1209701}, {3, 1209701}},
+        .barrier = {{1, 1209701}}, .waiting = {FAR_AFTER_2}, .floor = 1209701};
+
+    RUN_FROM("set back", &before_set_back, set_back);
+    lower_times();
+    RUN("a deaf panel", deaf);
+    RUN("after a wrong year", wrong_year);
+    each_floor();
+    each_panel_gone_without();
+    up_to_the_floor();
+    RUN_FROM("order of receive, with a floor", &far_and_floor, floor_order);
+    full_floor();
 }
 
 /* ---- Refusals ---- */
@@ -1129,7 +1573,7 @@ static const Step receive_order[] = {
 };
 
 /* Panel 3 has a message of panel 1 in its log that is far ahead, so that 32 and 22 apply to that
-   one, and to one of its own 20 and 32; 21 and 32 never apply both. */
+   one, and to one of its own 20 and 32; 21 and 32 apply both by the floor alone. */
 static const Step far_order[] = {
     {__LINE__, RECEIVE, .at = 3, .bytes = FROM_1_DUE_1209701, .broken = true, .output_more = -1,
      .number = PANEL_REFUSED_RECORD_BROKEN},
@@ -1189,6 +1633,7 @@ static void refused_as_broken(int line, const Panel *p)
         {.call = BEACON, .bytes = "", .number = PANEL_REFUSED_RECORD_BROKEN},
         {.call = RECEIVE, .bytes = FROM_1_DUE_700, .number = PANEL_REFUSED_RECORD_BROKEN},
         {.call = CLOCK, .value = 0, .number = PANEL_REFUSED_RECORD_BROKEN},
+        {.call = SET_BACK, .value = 0, .number = PANEL_REFUSED_RECORD_BROKEN},
     };
     for (size_t i = 0; i < COUNT(calls); i++) {
         Step s = calls[i];
@@ -1221,6 +1666,7 @@ static const Step two_waiting[] = {
 static void broken_records(void)
 {
     RUN("broken records", two_waiting);
+    panels[3].time = 50; /* so that a set back would lower it */
     BROKEN(p.own = 64);
     BROKEN(p.own = 255);
     BROKEN(p.marks[0] = 101);
@@ -1248,6 +1694,7 @@ static void broken_records(void)
     /* 33 waiting, and each of the 32 slots holds a frame */
     fill();
     panels[7].count = 33;
+    panels[7].time = 50;
     refused_as_broken(__LINE__, &panels[7]);
 }
 
@@ -1308,8 +1755,7 @@ static void check_trace(int line, const Panel *given, const char *frame, PanelTr
     same_number(line, "number of entries visited", answer.visited, expected.visited);
 }
 
-/* Entries of 100, 101 and 102 of panels 3, 7 and 9; of 100 and 101 of panels 0 and 63. */
-#define AFTER_3_7_9 "445259 0001 14 000003e8 0000000000000288 00000064 00000065 00000066 00"
+/* Entries of 100 and 101 of panels 0 and 63. */
 #define AFTER_0_63 "445259 0001 14 000003e8 8000000000000001 00000064 00000065 00"
 
 /* Far ahead at time 0: AFTER_3_7_9 with deadline 1,209,601, and one of panel 2. */
@@ -1346,6 +1792,16 @@ static const struct {
     {__LINE__, AFTER_3_7_9, {.time = 103}, {0, true, 3}},
     {__LINE__, AFTER_3_7_9, {.time = 101, .high = 101, .marks = {{7, 101}}}, {0, false, 3}},
     {__LINE__, AFTER_3_7_9, {.time = 102, .high = 102, .marks = {{9, 102}}}, {0, true, 3}},
+    /* entries that have lapsed by the floor; one that is above it is alive */
+    {__LINE__, AFTER_3_7_9, {.floor = 99}, {0, false, 1}},
+    {__LINE__, AFTER_3_7_9, {.floor = 100}, {0, false, 2}},
+    {__LINE__, AFTER_3_7_9, {.floor = 101}, {0, false, 3}},
+    {__LINE__, AFTER_3_7_9, {.floor = 102}, {0, true, 3}},
+    {__LINE__, AFTER_3_7_9, {.floor = 999}, {0, true, 3}},
+    {__LINE__, AFTER_3_7_9, {.time = 102, .floor = 100}, {0, false, 3}},
+    {__LINE__, AFTER_3_7_9, {.time = 100, .floor = 101}, {0, false, 3}},
+    {__LINE__, AFTER_3_7_9, {.high = 102, .marks = {{9, 102}}, .floor = 101}, {0, true, 3}},
+    {__LINE__, AFTER_3_7_9, {.high = 102, .marks = {{3, 100}}, .floor = 99}, {0, false, 2}},
     /* the lowest panel and the highest */
     {__LINE__, AFTER_0_63, {.time = 0}, {0, false, 1}},
     {__LINE__, AFTER_0_63, {.high = 101, .marks = {{63, 101}}}, {0, false, 1}},
@@ -1355,6 +1811,12 @@ static const struct {
     {__LINE__, FROM_2_DUE_300_AFTER_1, {.time = 0}, {20, false, 1}},
     {__LINE__, FROM_2_DUE_300_AFTER_1, {.time = 101}, {20, true, 1}},
     {__LINE__, AFTER_3_7_9, {.time = 1001}, {21, true, 3}},
+    {__LINE__, AFTER_3_7_9, {.floor = 1000}, {21, true, 3}},
+    {__LINE__, FROM_1_DUE_100, {.floor = 99}, {0, true, 0}},
+    {__LINE__, FROM_1_DUE_100, {.floor = 100}, {21, true, 0}},
+    {__LINE__, FROM_2_DUE_300_AFTER_1, {.floor = 300}, {20, true, 1}},
+    {__LINE__, FROM_1_DUE_100, {.high = 100, .marks = {{1, 100}}, .floor = 99}, {22, true, 0}},
+    {__LINE__, FROM_1_DUE_100, {.high = 100, .marks = {{1, 100}}, .floor = 100}, {21, true, 0}},
     {__LINE__, AFTER_3_7_9, {.high = 1000, .marks = {{3, 100}, {20, 1000}}}, {22, false, 2}},
     {__LINE__, AFTER_3_7_9, {.time = 103, .high = 1000, .marks = {{20, 1000}}}, {22, true, 3}},
     {__LINE__, AFTER_3_7_9, {.waiting = {AFTER_3_7_9}}, {22, false, 1}},
@@ -1374,6 +1836,13 @@ static const struct {
     {__LINE__, FROM_1_DUE_LAST, {.time = 4293757694}, {32, true, 0}},
     {__LINE__, FROM_1_DUE_LAST, {.time = 4293757695}, {0, true, 0}},
     {__LINE__, FROM_1_DUE_LAST, {.time = 4293757696}, {0, true, 0}},
+    /* and by the floor */
+    {__LINE__, FAR_AFTER_3_7_9, {.floor = 1209600}, {32, true, 3}},
+    {__LINE__, FAR_AFTER_3_7_9, {.floor = 1209601}, {21, true, 3}},
+    {__LINE__, FROM_1_DUE_LAST, {.time = 0, .floor = 4294967294}, {32, true, 0}},
+    {__LINE__, FROM_1_DUE_LAST, {.time = 0, .floor = 4294967295}, {21, true, 0}},
+    {__LINE__, FROM_1_DUE_LAST, {.time = 4294967295, .floor = 4294967294}, {0, true, 0}},
+    {__LINE__, FROM_1_DUE_LAST, {.time = 4294967295, .floor = 4294967295}, {21, true, 0}},
 };
 
 /* Each hand-written trace; with 33 waiting the same is visited, and the number is 26. */
@@ -1400,6 +1869,10 @@ static void full_traces(void)
     check_trace(__LINE__, &panels[7], FAR_AFTER_3_7_9, (PanelTrace){32, false, 1});
     check_trace(__LINE__, &panels[7], FROM_1_DUE_100, (PanelTrace){0, true, 0});
     check_trace(__LINE__, &panels[7], full.bytes, (PanelTrace){22, false, 1});
+    panels[7].floor = 100;
+    check_trace(__LINE__, &panels[7], AFTER_3_7_9, (PanelTrace){23, false, 2});
+    panels[7].floor = 102;
+    check_trace(__LINE__, &panels[7], AFTER_3_7_9, (PanelTrace){0, true, 3});
 }
 
 /* The entry of each panel alone, and with those of all others, the lower ones of which are met. */
@@ -1576,6 +2049,7 @@ static const struct {
     [BEACON] = {"beacon", {9, 10, 24, 26}},
     [RECEIVE] = {"receive", {1, 2, 3, 4, 5, 6, 7, 8, 10, 20, 21, 22, 23, 26, 32}},
     [CLOCK] = {"clock", {10, 25, 26}},
+    [SET_BACK] = {"set back", {26}},
     [TRACE] = {"trace", {1, 2, 3, 4, 5, 6, 7, 8, 20, 21, 22, 23, 26, 32}},
 };
 
@@ -1623,6 +2097,7 @@ void test_calls(void)
     already_far_ahead();
     farthest_deadlines();
     shorter_barriers();
+    setting_back();
     RUN("order of send", send_order);
     beacon_order();
     RUN("order of clock", clock_order);

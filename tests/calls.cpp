@@ -103,6 +103,34 @@ static void far_ahead()
     CHECK(panel_log_record(output, PANEL_LOG_RECORD, 0).deadline == deadline);
 }
 
+// Panel 9 hands a message of panel 1 without that of panel 0 that it names, as its clock is ahead.
+// Set back, it refuses that one by the floor, and takes the next of panel 0.
+static void set_back()
+{
+    static Panel nine, before;
+    const uint8_t first[] = {0x44, 0x52, 0x59, 0, 1, 0, 0, 0, 0, 7, 0, 0, 0, 0, 0, 0, 0, 0, 0};
+    const uint8_t next[] = {0x44, 0x52, 0x59, 0, 1, 0, 0, 0, 0, 8, 0, 0, 0, 0, 0, 0, 0, 0, 0};
+    const uint8_t later[] = {0x44, 0x52, 0x59, 0, 1, 1, 0, 0, 0, 9, 0, 0,
+                             0,    0,    0,    0, 0, 1, 0, 0, 0, 7, 0};
+
+    CHECK(panel_fresh(&nine, 9) == PANEL_ACCEPTED && nine.floor == 0);
+    CHECK(panel_receive(&nine, later, sizeof later, output, sizeof output).count == 0);
+    CHECK(panel_clock(&nine, 8, output, sizeof output).count == 1 && nine.floor == 7);
+    CHECK(panel_clock(&nine, 1000, output, sizeof output).number == PANEL_ACCEPTED);
+    PanelAnswer deaf = panel_receive(&nine, next, sizeof next, output, sizeof output);
+    CHECK(deaf.number == PANEL_REFUSED_LAPSED);
+    std::memcpy(&before, &nine, sizeof nine);
+    CHECK(panel_set_back(&nine, 1001) == PANEL_ACCEPTED && nine.time == 1000);
+    CHECK(panel_set_back(&nine, 5) == PANEL_ACCEPTED && nine.time == 5);
+    before.time = 5;
+    CHECK(std::memcmp(&nine, &before, sizeof nine) == 0);
+    CHECK(panel_trace(&nine, first, sizeof first).number == PANEL_REFUSED_LAPSED);
+    PanelAnswer taken = panel_receive(&nine, next, sizeof next, output, sizeof output);
+    CHECK(taken.number == PANEL_ACCEPTED && taken.count == 1);
+    nine.own = PANEL_PANELS;
+    CHECK(panel_set_back(&nine, 4) == PANEL_REFUSED_RECORD_BROKEN && nine.time == 5);
+}
+
 // Panels 0 to 3 of a busy yard: each takes the notes before it and sends one, which names the last
 // of them alone.
 static void busy_yard()
@@ -140,8 +168,11 @@ int main()
     beacon();
     trace();
     far_ahead();
+    set_back();
     busy_yard();
     CHECK(panel_bundle_next(&bundle, &frame, &length) == PANEL_BUNDLE_END && length == 0);
-    CHECK(std::strcmp(panel_number_text(PANEL_REFUSED_LAPSED), "the message has lapsed") == 0);
+    CHECK(std::strcmp(panel_number_text(PANEL_REFUSED_LAPSED),
+                      "the message has lapsed: its deadline is below the time or at most the "
+                      "floor") == 0);
     return EXIT_SUCCESS;
 }

@@ -128,6 +128,43 @@ fn far_ahead() -> Result<(), Refusal> {
     Ok(())
 }
 
+/// Panel 2 hands a message without that of panel 1 that it names, and drops one; in a wrong year it
+/// is deaf. Set back, it refuses the first by the floor, and takes what it dropped and what is
+/// later, in order.
+fn set_backs() -> Result<(), Refusal> {
+    let lapsed = Some(Refusal::Lapsed);
+    let mut two = Panel::fresh(2)?;
+    assert_eq!(two.floor(), 0);
+    let dropped = frame(4, 150, 1 << 6, &[140]);
+    assert!(two.receive(&frame(5, 200, 2, &[100]))?.is_empty());
+    assert!(two.receive(&dropped)?.is_empty());
+    assert_eq!(records(&two.clock(160)?), [(5, 200, &b""[..])]);
+    assert_eq!((two.time(), two.waiting(), two.floor()), (160, 0, 100));
+    two.clock(31_536_000)?;
+    assert_eq!(two.receive(&frame(1, 700, 0, &[])).err(), lapsed);
+    assert_eq!(two.clock(60).err(), Some(Refusal::ClockBack));
+    two.set_back(31_536_001)?;
+    assert_eq!(two.time(), 31_536_000);
+    two.set_back(60)?;
+    assert_eq!((two.time(), two.waiting(), two.floor()), (60, 0, 100));
+    assert_eq!(two.receive(&frame(1, 100, 0, &[])).err(), lapsed);
+    assert_eq!(two.trace(&frame(1, 100, 0, &[])).refusal, lapsed);
+    assert!(two.receive(&dropped)?.is_empty());
+    assert_eq!(two.receive(&frame(1, 101, 0, &[]))?.len(), 1);
+    let log = two.receive(&frame(6, 140, 0, &[]))?;
+    assert_eq!(records(&log), [(6, 140, &b""[..]), (4, 150, &b""[..])]);
+    assert_eq!(two.trace(&frame(9, 200, 2, &[100])).refusal, None);
+    assert!(two.trace(&frame(9, 200, 8, &[100])).ready);
+    assert!(!two.trace(&frame(9, 200, 8, &[101])).ready);
+    two.set_back(0)?;
+    assert_eq!((two.time(), two.floor()), (0, 100));
+    assert_eq!(
+        Refusal::Lapsed.to_string(),
+        "the message has lapsed: its deadline is below the time or at most the floor"
+    );
+    Ok(())
+}
+
 /// Panels 0 to 3 of a busy yard: each takes the notes before it and sends one, which names the last
 /// of them alone. The last stays the same where the third comes from an old panel, and first.
 fn shorter_barriers() -> Result<(), Refusal> {
@@ -235,6 +272,7 @@ fn main() -> Result<(), Refusal> {
     receives()?;
     refusals()?;
     far_ahead()?;
+    set_backs()?;
     shorter_barriers()?;
     full_list()?;
     traces()?;

@@ -1,7 +1,7 @@
 /*
- * How much stack the calls take: each works on a full list and hands it whole, or traces a frame
- * there, on a stack of its own that was painted before. A program of its own, as valgrind can't
- * follow the change of stack.
+ * How much stack the calls take: each works on a full list and hands it whole, or sets the clock
+ * back or traces a frame there, on a stack of its own that was painted before. A program of its
+ * own, as valgrind can't follow the change of stack.
  */
 #define _XOPEN_SOURCE 600 /* for ucontext.h */
 #include "checks.h"
@@ -58,6 +58,11 @@ static void make_receive(void)
 static void make_clock(void)
 {
     answer = panel_clock(&panel, 101, output, sizeof output);
+}
+
+static void make_set_back(void)
+{
+    answer = (PanelAnswer){.number = panel_set_back(&panel, 0)};
 }
 
 /* A message that waits for two others. */
@@ -128,6 +133,10 @@ int main(void)
     check_stack(__LINE__, make_receive, PANEL_WAITING_MAX + 1);
     fill(1, 100);
     check_stack(__LINE__, make_clock, PANEL_WAITING_MAX);
+    fill(1, 100);
+    panel.time = 99;
+    check_stack(__LINE__, make_set_back, 0);
+    same_number(__LINE__, "time", panel.time, 0);
     fill(1, 100);
     check_trace(__LINE__);
     return checked();

@@ -6,6 +6,7 @@
 
 int must_pass_on(PanelNumber number);
 void hand_on(Panel *panel, uint8_t *output);
+void lower(Panel *panel);
 void look_at(const Panel *panel, const uint8_t *frame);
 PanelNumber check_none(void);
 
@@ -46,6 +47,15 @@ void hand_on(Panel *panel, uint8_t *output)
     panel_clock(panel, 1, output, PANEL_OUTPUT_MIN);
 #else
     (void)panel, (void)output;
+#endif
+}
+
+void lower(Panel *panel)
+{
+#ifdef SET_BACK_NOT_LOOKED_AT
+    panel_set_back(panel, 1);
+#else
+    (void)panel;
 #endif
 }
 

@@ -1,7 +1,7 @@
 /*
  * Four panels of a farm in one process: what they send, hand, keep waiting, drop and refuse, what
- * a trace tells of it, and the log of each in the end. It prints what stands in farm.txt;
- * examples/run.sh builds it.
+ * a trace tells of it, how a clock is set back, and the log of each in the end. It prints what
+ * stands in farm.txt; examples/run.sh builds it.
  */
 #include <panel.h>
 
@@ -70,6 +70,14 @@ static void set_clock(Member *member, uint32_t time)
     keep(member, output, answer.count);
     printf("panel %u sets its time to %u: %zu handed, %zu dropped\n", member->record.own, time,
            answer.count, waiting - answer.count - member->record.count);
+}
+
+/* A technician sets the clock of a panel back. */
+static void set_back(Member *member, uint32_t time)
+{
+    must_be_accepted("panel_set_back", panel_set_back(&member->record, time));
+    printf("panel %u is set back to %u: its floor is %u\n", member->record.own,
+           member->record.time, member->record.floor);
 }
 
 /* A panel comes to life. */
@@ -278,14 +286,13 @@ static void too_late(Member *from, Member *to)
  * A panel that lacks a beacon holds back the note that was sent after it until the beacon lapses.
  * That is soon: sent with lifetime 0, it would hold the note back to the last second of its life.
  */
-static Parcel beacon_lapses(Member *from, Member *to)
+static void beacon_lapses(Member *from, Member *to, Parcel *beacon, Parcel *note)
 {
-    Parcel beacon = send_beacon(from, "dryer 9 runs");
-    Parcel note = send_text(from, "hold batch 7");
-    receive(to, &note);
-    set_clock(to, beacon.deadline + 1);
-    receive(to, &beacon);
-    return beacon;
+    *beacon = send_beacon(from, "dryer 9 runs");
+    *note = send_text(from, "hold batch 7");
+    receive(to, note);
+    set_clock(to, beacon->deadline + 1);
+    receive(to, beacon);
 }
 
 /*
@@ -303,7 +310,7 @@ static void look_for_cause(Member *member, const Parcel *beacon, const Cab *cab)
  * The clock of a panel is set to a wrong year, so the note that it sends is far ahead. The others
  * refuse it, and go on as before.
  */
-static void wrong_year(Member *wrong, Member *one, Member *other)
+static Parcel wrong_year(Member *wrong, Member *one, Member *other)
 {
     set_clock(wrong, wrong->record.time + YEAR);
     Parcel far_ahead = send_text(wrong, "bin 5 full");
@@ -312,12 +319,37 @@ static void wrong_year(Member *wrong, Member *one, Member *other)
     say_why(other, &far_ahead);
     Parcel moisture = send_text(one, "moisture 17");
     receive(other, &moisture);
+    return moisture;
+}
+
+/*
+ * The clock of a panel is ahead, so that a note is handed without the beacon that it names. Then it
+ * is set to a wrong year: what waits is dropped, and the panel is deaf. Set back, it still refuses
+ * the beacon, by the floor, as that would stand behind the note. Later messages it takes, also the
+ * one that it dropped, and hands them in order.
+ */
+static void deaf_panel(Member *deaf, Member *from, const Parcel *beacon, const Parcel *note,
+                       const Parcel *moisture)
+{
+    uint32_t right = deaf->record.time;
+
+    receive(deaf, note);
+    set_clock(deaf, beacon->deadline + 1);
+    Parcel load = send_text(from, "load batch 7");
+    receive(deaf, &load);
+    set_clock(deaf, right + YEAR);
+    receive(deaf, moisture);
+    set_back(deaf, right);
+    receive(deaf, beacon);
+    say_why(deaf, beacon);
+    receive(deaf, &load);
+    receive(deaf, moisture);
 }
 
 int main(void)
 {
     static Member three, five, nine, twelve;
-    Parcel chain[CHAIN];
+    Parcel chain[CHAIN], beacon, note;
 
     /* no common clock */
     start(&three, 3, 100);
@@ -333,13 +365,14 @@ int main(void)
     too_late(&three, &nine);
 
     /* the deadlines in the log of panel 9 have passed, so its beacon lapses as soon as one can */
-    Parcel beacon = beacon_lapses(&nine, &five);
+    beacon_lapses(&nine, &five, &beacon, &note);
 
     /* panel 3 has not had it; at panel 5 it has lapsed, and so have the entries that it carries */
     look_for_cause(&three, &beacon, &cab);
     trace(&five, &beacon);
 
-    wrong_year(&three, &five, &nine);
+    Parcel moisture = wrong_year(&three, &five, &nine);
+    deaf_panel(&twelve, &five, &beacon, &note, &moisture);
 
     print_log(&three);
     print_log(&five);

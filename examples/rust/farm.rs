@@ -50,6 +50,18 @@ impl Member {
         Ok(())
     }
 
+    /// A technician sets the clock of the panel back.
+    fn set_back(&mut self, time: u32) -> Result<(), Refusal> {
+        self.panel.set_back(time)?;
+        println!(
+            "panel {} is set back to {}: its floor is {}",
+            self.panel.own(),
+            self.panel.time(),
+            self.panel.floor()
+        );
+        Ok(())
+    }
+
     /// What a panel does when it has sent a message or a beacon: the first log record is its own.
     fn sent(&mut self, (frame, log): (Frame, Log), text: &'static str) -> Parcel {
         self.keep(&log);
@@ -226,13 +238,13 @@ fn too_late(from: &mut Member, to: &mut Member) -> Result<(), Refusal> {
 
 /// A panel that lacks a beacon holds back the note that was sent after it until the beacon lapses.
 /// That is soon: sent with lifetime 0, it would hold the note back to the last second of its life.
-fn beacon_lapses(from: &mut Member, to: &mut Member) -> Result<Parcel, Refusal> {
+fn beacon_lapses(from: &mut Member, to: &mut Member) -> Result<(Parcel, Parcel), Refusal> {
     let beacon = from.beacon("dryer 9 runs")?;
     let note = from.send("hold batch 7")?;
     to.receive(&note);
     to.set_clock(beacon.deadline + 1)?;
     to.receive(&beacon);
-    Ok(beacon)
+    Ok((beacon, note))
 }
 
 /// A panel would keep a beacon waiting, as it lacks one of the two messages that come before it in
@@ -245,7 +257,7 @@ fn look_for_cause(member: &mut Member, beacon: &Parcel, bundle: &[u8]) {
 
 /// The clock of a panel is set to a wrong year, so the note that it sends is far ahead. The others
 /// refuse it, and go on as before.
-fn wrong_year(wrong: &mut Member, one: &mut Member, other: &mut Member) -> Result<(), Refusal> {
+fn wrong_year(wrong: &mut Member, one: &mut Member, other: &mut Member) -> Result<Parcel, Refusal> {
     wrong.set_clock(wrong.panel.time() + YEAR)?;
     let far_ahead = wrong.send("bin 5 full")?;
     one.receive(&far_ahead);
@@ -253,6 +265,32 @@ fn wrong_year(wrong: &mut Member, one: &mut Member, other: &mut Member) -> Resul
     other.say_why(&far_ahead);
     let moisture = one.send("moisture 17")?;
     other.receive(&moisture);
+    Ok(moisture)
+}
+
+/// The clock of a panel is ahead, so that a note is handed without the beacon that it names. Then
+/// it is set to a wrong year: what waits is dropped, and the panel is deaf. Set back, it still
+/// refuses the beacon, by the floor, as that would stand behind the note. Later messages it takes,
+/// also the one that it dropped, and hands them in order.
+fn deaf_panel(
+    deaf: &mut Member,
+    from: &mut Member,
+    beacon: &Parcel,
+    note: &Parcel,
+    moisture: &Parcel,
+) -> Result<(), Refusal> {
+    let right = deaf.panel.time();
+    deaf.receive(note);
+    deaf.set_clock(beacon.deadline + 1)?;
+    let load = from.send("load batch 7")?;
+    deaf.receive(&load);
+    deaf.set_clock(right + YEAR)?;
+    deaf.receive(moisture);
+    deaf.set_back(right)?;
+    deaf.receive(beacon);
+    deaf.say_why(beacon);
+    deaf.receive(&load);
+    deaf.receive(moisture);
     Ok(())
 }
 
@@ -271,13 +309,14 @@ fn story() -> Result<(), Refusal> {
     too_late(&mut three, &mut nine)?;
 
     // the deadlines in the log of panel 9 have passed, so its beacon lapses as soon as one can
-    let beacon = beacon_lapses(&mut nine, &mut five)?;
+    let (beacon, note) = beacon_lapses(&mut nine, &mut five)?;
 
     // panel 3 has not had it; at panel 5 it has lapsed, and so have the entries that it carries
     look_for_cause(&mut three, &beacon, &bundle);
     five.trace(&beacon);
 
-    wrong_year(&mut three, &mut five, &mut nine)?;
+    let moisture = wrong_year(&mut three, &mut five, &mut nine)?;
+    deaf_panel(&mut twelve, &mut five, &beacon, &note, &moisture)?;
 
     three.print_log();
     five.print_log();

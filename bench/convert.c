@@ -4,6 +4,7 @@
 #include "reference_frames.h"
 
 _Static_assert(FRONT == offsetof(Record, waiting), "front");
+_Static_assert(BACK == sizeof(Record) - offsetof(Record, floor), "back");
 _Static_assert(offsetof(Panel, own) == offsetof(Record, own), "own");
 _Static_assert(offsetof(Panel, time) == offsetof(Record, time), "time");
 _Static_assert(offsetof(Panel, high) == offsetof(Record, high), "high");
@@ -45,6 +46,8 @@ void record_of_panel(const Panel *panel, Record *record)
 {
     memset(record, 0, sizeof *record);
     memcpy(record, panel, FRONT);
+    memcpy((uint8_t *)record + offsetof(Record, floor),
+           (const uint8_t *)panel + offsetof(Panel, floor), BACK);
     for (size_t i = 0; i < panel->count && i < WAITING_MAX; i++)
         message_of_slot(panel->slots + PANEL_SLOT_BYTES * i, &record->waiting[i]);
 }

@@ -6,8 +6,8 @@
 
 #include <panel.h>
 
-/* Both records are the same in front of the waiting messages. */
-enum { FRONT = offsetof(Panel, slots) };
+/* Both records are the same in front of the waiting messages, and behind them. */
+enum { FRONT = offsetof(Panel, slots), BACK = sizeof(Panel) - offsetof(Panel, floor) };
 
 /* A slot without a readable frame becomes a message that is not readable. */
 void record_of_panel(const Panel *panel, Record *record);

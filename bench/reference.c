@@ -33,16 +33,21 @@ uint8_t c_fresh(Record *record, uint8_t own)
     return 0;
 }
 
-/* The message that a send makes, with the barrier entries as they are. */
-static void compose(const Record *record, Slice payload, uint32_t deadline, Message *message)
+/* The message that a send makes, with the barrier entries as they are, and the floor that it gives
+   when it is handed. */
+static uint32_t compose(const Record *record, Slice payload, uint32_t deadline, Message *message)
 {
     uint64_t mask = 0;
     size_t entries = 0;
+    uint32_t floor = record->floor;
 
-    for (size_t s = 0; s < PANELS; s++) {
-        if (record->barrier[s] != 0) {
+    for (int s = 0; s < PANELS; s++) {
+        uint32_t entry = record->barrier[s];
+        if (entry != 0) {
             mask |= (uint64_t)1 << s;
-            message->entries[entries++] = record->barrier[s];
+            message->entries[entries++] = entry;
+            if (goes_without(record, s, entry))
+                floor = larger(floor, entry);
         }
     }
     message->source = record->own;
@@ -50,6 +55,7 @@ static void compose(const Record *record, Slice payload, uint32_t deadline, Mess
     message->mask = mask;
     message->length = (uint8_t)payload.length;
     memcpy(message->payload, payload.bytes, payload.length);
+    return floor;
 }
 
 uint8_t c_send(Record *record, Slice payload, uint16_t lifetime, Buffer output,
@@ -70,9 +76,10 @@ uint8_t c_send(Record *record, Slice payload, uint16_t lifetime, Buffer output,
         return 24;
 
     Message message;
-    compose(record, payload, (uint32_t)deadline, &message);
+    uint32_t floor = compose(record, payload, (uint32_t)deadline, &message);
     written->length = c_frame_write(&message, buffer.bytes);
     memset(record->barrier, 0, sizeof record->barrier);
+    record->floor = floor;
     put_in_log(record, &message, output.bytes); /* handed: no barrier entry is left to remove */
     written->count = settle(record, output.bytes, 1);
     return 0;
@@ -98,7 +105,7 @@ uint8_t c_receive(Record *record, Slice frame, Buffer output, Written *written)
         return number;
     if (message.source == record->own)
         return 20;
-    if (message.deadline < record->time)
+    if (lapsed(record, message.deadline))
         return 21;
     if (message.deadline - record->time > FARTHEST_AHEAD)
         return 32;
@@ -131,7 +138,7 @@ uint8_t c_clock(Record *record, uint32_t time, Buffer output, Written *written)
     record->time = time;
     size_t kept = 0;
     for (size_t i = 0; i < record->count; i++) {
-        if (record->waiting[i].deadline < time)
+        if (lapsed(record, record->waiting[i].deadline))
             continue;
         if (i != kept)
             record->waiting[kept] = record->waiting[i];
@@ -142,13 +149,22 @@ uint8_t c_clock(Record *record, uint32_t time, Buffer output, Written *written)
     return 0;
 }
 
+uint8_t c_set_back(Record *record, uint32_t reading)
+{
+    if (!sound(record))
+        return 26;
+    if (reading < record->time)
+        record->time = reading;
+    return 0;
+}
+
 /* The last checks of a receive, in its order. They stand twice, as the receive that is measured
    becomes other code if both share them. */
 static uint8_t number_of_trace(const Record *record, const Message *message, bool is_ready)
 {
     if (message->source == record->own)
         return 20;
-    if (message->deadline < record->time)
+    if (lapsed(record, message->deadline))
         return 21;
     if (message->deadline - record->time > FARTHEST_AHEAD)
         return 32;

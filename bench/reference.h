@@ -38,6 +38,7 @@ typedef struct {
     uint32_t marks[PANELS];
     uint32_t barrier[PANELS];
     Message waiting[WAITING_MAX]; /* in the order taken */
+    uint32_t floor;
 } Record;
 
 /* Bytes lent to a call: some that it reads, or a buffer that it writes to. */
@@ -64,6 +65,7 @@ uint8_t c_beacon(Record *record, Slice payload, Buffer output, Buffer buffer,
                  Written *written);
 uint8_t c_receive(Record *record, Slice frame, Buffer output, Written *written);
 uint8_t c_clock(Record *record, uint32_t time, Buffer output, Written *written);
+uint8_t c_set_back(Record *record, uint32_t reading);
 
 /* What a trace answers: the number of a receive with an output that is long enough, whether the
    message is ready, and how many entries the test for that visited. */

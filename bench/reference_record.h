@@ -41,6 +41,12 @@ static inline bool sound(const Record *record)
     return true;
 }
 
+/* Below the time, or at most the floor. */
+static inline bool lapsed(const Record *record, uint32_t deadline)
+{
+    return deadline < record->time || deadline <= record->floor;
+}
+
 /*
  * The test for ready. It goes from one set bit to the next, lowest first, up to
  * the first entry that is not met, and where a count is given adds its visits.
@@ -52,7 +58,7 @@ static inline bool visit(const Record *record, const Message *message, size_t *v
         int source = __builtin_ctzll(rest);
         if (visited)
             ++*visited;
-        if (record->marks[source] < *entry && *entry >= record->time)
+        if (record->marks[source] < *entry && !lapsed(record, *entry))
             return false;
     }
     return true;
@@ -74,17 +80,31 @@ static inline bool is_waiting(const Record *record, const Message *message)
 }
 
 /*
- * Removes each barrier entry that is at most the message's entry for the same
- * panel. It goes from one set bit to the next, as the test for ready does.
+ * Does the log go without this entry of a message that is handed? An entry that
+ * has lapsed by the floor alone does not count, as it can't raise the floor.
  */
-static inline void shorten_barrier(Record *record, const Message *message)
+static inline bool goes_without(const Record *record, int source, uint32_t entry)
+{
+    return record->marks[source] < entry && entry < record->time;
+}
+
+/*
+ * Removes each barrier entry that is at most the message's entry for the same
+ * panel, and raises the floor to the largest entry that the log goes without.
+ * It goes from one set bit to the next, as the test for ready does.
+ */
+static inline void pass_entries(Record *record, const Message *message)
 {
     const uint32_t *entry = message->entries;
+    uint32_t floor = record->floor;
     for (uint64_t rest = message->mask; rest != 0; rest &= rest - 1, entry++) {
         int source = __builtin_ctzll(rest);
         if (record->barrier[source] <= *entry)
             record->barrier[source] = 0;
+        if (goes_without(record, source, *entry))
+            floor = larger(floor, *entry);
     }
+    record->floor = floor;
 }
 
 /* Puts a message into marks, barrier and high, and writes its log record. */
@@ -104,7 +124,7 @@ static inline void put_in_log(Record *record, const Message *message, uint8_t *l
 
 static inline void hand(Record *record, const Message *message, uint8_t *log)
 {
-    shorten_barrier(record, message);
+    pass_entries(record, message);
     put_in_log(record, message, log);
 }
 

@@ -50,6 +50,26 @@ static uint32_t random_reading(const Panel *panel)
     return way < 997 ? (uint32_t)random_64() : UINT32_MAX - random_below(2);
 }
 
+/* Mostly below the time, in steps as those of a clock, or about the floor or a deadline. */
+static uint32_t random_set_back(const Panel *panel)
+{
+    uint32_t way = random_below(100);
+    int64_t off = (int64_t)random_below(3) - 1;
+    if (way < 10)
+        return panel->time;
+    if (way < 40)
+        return plus(panel->time, -1 - (int64_t)random_below(20));
+    if (way < 65)
+        return plus(panel->time, -1 - (int64_t)random_below(1500));
+    if (way < 75)
+        return plus(panel->floor, off);
+    if (way < 85)
+        return plus(some_deadline(panel), off);
+    if (way < 92)
+        return plus(panel->time, 1 + random_below(2000));
+    return way < 96 ? 0 : (uint32_t)random_64();
+}
+
 static uint16_t random_lifetime(const Panel *panel)
 {
     uint32_t way = random_below(100);
@@ -102,8 +122,10 @@ static void random_call(Panel *panel, Record *record)
         random_send(panel, record);
     else if (way < 80)
         random_receive(panel, record);
-    else
+    else if (way < 96)
         both_clock(panel, record, random_reading(panel));
+    else
+        both_set_back(panel, record, random_set_back(panel));
 }
 
 /* What makes the first of a chain ready: its message, or time. */

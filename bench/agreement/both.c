@@ -1,6 +1,8 @@
 /* Each call made on both sides, and all that they answer compared. */
 #include "both.h"
 
+#include "../convert.h"
+#include "../reference_frames.h"
 #include "compare.h"
 #include "random.h"
 #include "seen.h"
@@ -85,6 +87,8 @@ static void end_call(PanelNumber number, uint8_t c_number)
 {
     saw_number(c_number);
     same_number("the number", number, c_number);
+    if (c_number == 21)
+        saw_lapsed(get32(call.bytes + 6) < call.record.time);
     if (memcmp(bytes_before, call.bytes, call.length) != 0)
         differ("the bytes given were written to");
 }
@@ -103,6 +107,7 @@ static void end_on_record(PanelAnswer answer, uint8_t c_number, Written written,
     }
     same_record(panel, record);
     saw_accepted(written.count, record->count);
+    saw_floor(call.record.floor, record->floor);
     if (call.kind == RECEIVE || call.kind == CLOCK) /* the others empty the barrier */
         saw_barrier(call.record.barrier, record->barrier);
     for (size_t i = 0; i <= written.count; i++)
@@ -119,7 +124,8 @@ void both_fresh(uint8_t own, Panel *panel, Record *record)
     PanelNumber number = panel_fresh(panel, own);
     end_call(number, c_fresh(record, own));
     same_record(panel, record);
-    same_bytes("slots of a fresh panel", panel->slots, zeros.slots, sizeof zeros.slots, 0);
+    same_bytes("slots of a fresh panel, and what is behind them", (const uint8_t *)panel + FRONT,
+               (const uint8_t *)&zeros + FRONT, sizeof zeros - FRONT, 0);
 }
 
 /* The frame that a call wrote. */
@@ -181,6 +187,23 @@ void both_clock(Panel *panel, Record *record, uint32_t time)
     PanelAnswer answer = panel_clock(panel, time, output.proved + MARGIN, output.length);
     uint8_t number = c_clock(record, time, lent_to_c(&output), &written);
     end_on_record(answer, number, written, panel, record);
+}
+
+void both_set_back(Panel *panel, Record *record, uint32_t reading)
+{
+    uint8_t none = 0;
+
+    start_call(SET_BACK, "reading", reading, (Slice){&none, 0});
+    give_record(panel, record);
+    PanelNumber number = panel_set_back(panel, reading);
+    uint8_t c_number = c_set_back(record, reading);
+    end_call(number, c_number);
+    if (c_number != 0) {
+        same_as_given(panel, record);
+        return;
+    }
+    same_but_time(panel, record);
+    saw_set_back(call.record.time, record->time);
 }
 
 void both_trace(const Panel *panel, const Record *record, Slice frame)

@@ -10,7 +10,7 @@
 #include <string.h>
 
 const char *const kind_name[KINDS] = {
-    "fresh", "send", "beacon", "receive", "clock", "trace", "check", "log", "bundle"
+    "fresh", "send", "beacon", "receive", "clock", "set back", "trace", "check", "log", "bundle"
 };
 
 Call call;
@@ -25,8 +25,9 @@ void differ(const char *format, ...)
     va_end(arguments);
     printf("\n");
     if (call.kind >= SEND && call.kind <= TRACE)
-        printf("  given a record with own %u, time %u, high %u, %zu waiting\n",
-               call.panel.own, call.panel.time, call.panel.high, call.panel.count);
+        printf("  given a record with own %u, time %u, high %u, %zu waiting, floor %u\n",
+               call.panel.own, call.panel.time, call.panel.high, call.panel.count,
+               call.panel.floor);
     printf("  %s %llu, output of %zu bytes, %zu bytes given:", call.what,
            (unsigned long long)call.value, call.output_length, call.length);
     for (size_t i = 0; i < call.length; i++)
@@ -81,25 +82,35 @@ static const char *part_at(size_t byte)
         {"number of waiting messages", offsetof(Panel, count), sizeof(size_t)},
         {"marks", offsetof(Panel, marks), PANELS * sizeof(uint32_t)},
         {"barrier", offsetof(Panel, barrier), PANELS * sizeof(uint32_t)},
-        {"slots", offsetof(Panel, slots), PANEL_SLOTS_BYTES}
+        {"slots", offsetof(Panel, slots), PANEL_SLOTS_BYTES},
+        {"floor", offsetof(Panel, floor), sizeof(uint32_t)}
     };
 
     for (size_t i = 0; i < sizeof parts / sizeof parts[0]; i++) {
         if (byte >= parts[i].at && byte < parts[i].at + parts[i].size)
             return parts[i].name;
     }
-    return "between the fields";
+    return "between or behind the fields";
+}
+
+/* Compares a part of so many bytes of the records. */
+static void same_part(const Panel *panel, size_t at, const Record *record, size_t c_at,
+                      size_t length)
+{
+    const uint8_t *proved = (const uint8_t *)panel + at, *c = (const uint8_t *)record + c_at;
+    size_t other = first_other(proved, c, length);
+
+    if (other < length)
+        differ("record: byte %zu (%s) is %u, in C %u", at + other, part_at(at + other),
+               proved[other], c[other]);
 }
 
 void same_record(const Panel *panel, const Record *record)
 {
     static Panel expected; /* for its slots: one with the frame of each waiting message */
-    const uint8_t *proved = (const uint8_t *)panel, *c = (const uint8_t *)record;
-    size_t other = first_other(panel, record, FRONT);
 
-    if (other < FRONT)
-        differ("record: byte %zu (%s) is %u, in C %u", other, part_at(other), proved[other],
-               c[other]);
+    same_part(panel, 0, record, 0, FRONT);
+    same_part(panel, offsetof(Panel, floor), record, offsetof(Record, floor), BACK);
     for (size_t i = 0; i < record->count; i++) {
         char what[80];
         size_t used = slot_write(&expected, i, &record->waiting[i]);
@@ -109,13 +120,30 @@ void same_record(const Panel *panel, const Record *record)
     }
 }
 
-void same_as_given(const Panel *panel, const Record *record)
+/* The records are these. */
+static void same_records(const Panel *panel, const Panel *expected, const Record *record,
+                         const Record *c_expected)
 {
-    size_t other = first_other(panel, &call.panel, sizeof *panel);
+    size_t other = first_other(panel, expected, sizeof *panel);
 
     if (other < sizeof *panel)
-        differ("nothing was to change, but byte %zu of the record (%s) did", other,
-               part_at(other));
-    if (first_other(record, &call.record, sizeof *record) < sizeof *record)
-        differ("nothing was to change, but the C record did");
+        differ("byte %zu of the record (%s) was not to change so", other, part_at(other));
+    if (first_other(record, c_expected, sizeof *record) < sizeof *record)
+        differ("the C record was not to change so");
+}
+
+void same_as_given(const Panel *panel, const Record *record)
+{
+    same_records(panel, &call.panel, record, &call.record);
+}
+
+void same_but_time(const Panel *panel, const Record *record)
+{
+    static Panel expected;
+    static Record c_expected;
+
+    memcpy(&expected, &call.panel, sizeof expected);
+    memcpy(&c_expected, &call.record, sizeof c_expected);
+    expected.time = c_expected.time = record->time;
+    same_records(panel, &expected, record, &c_expected);
 }

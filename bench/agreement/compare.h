@@ -6,7 +6,9 @@
 
 #include <panel.h>
 
-typedef enum { FRESH, SEND, BEACON, RECEIVE, CLOCK, TRACE, CHECK, LOG, BUNDLE, KINDS } Kind;
+typedef enum {
+    FRESH, SEND, BEACON, RECEIVE, CLOCK, SET_BACK, TRACE, CHECK, LOG, BUNDLE, KINDS
+} Kind;
 
 extern const char *const kind_name[KINDS];
 
@@ -33,10 +35,13 @@ void same_number(const char *what, uint64_t proved, uint64_t c);
 void same_bytes(const char *what, const uint8_t *proved, const uint8_t *c, size_t length,
                 size_t from);
 
-/* Compares the bytes in front of the slots, and the slots in use. */
+/* Compares the bytes in front of the slots, the slots in use, and the bytes behind the slots. */
 void same_record(const Panel *panel, const Record *record);
 
 /* Each byte of both records is as it was given. */
 void same_as_given(const Panel *panel, const Record *record);
+
+/* Each byte is, but for the time, which is that of the C record in both. */
+void same_but_time(const Panel *panel, const Record *record);
 
 #endif

@@ -58,7 +58,9 @@ void random_message(Message *message, const Panel *panel, uint8_t source,
     for (uint64_t rest = message->mask; rest != 0; rest &= rest - 1) {
         uint32_t mark = panel->marks[__builtin_ctzll(rest)];
         uint32_t entry;
-        if (low)
+        if (panel->floor != 0 && chance(200))
+            entry = plus(panel->floor, low ? 0 : (int64_t)random_below(3) - 1);
+        else if (low)
             entry = chance(500) ? mark : plus(panel->time, -1);
         else if (chance(500))
             entry = plus(mark, (int64_t)random_below(3) - 1);
@@ -118,6 +120,8 @@ static void forge(Bytes *frame, const Panel *panel)
         forge_awaited(&forged, panel);
     else if (chance(150)) /* at its source's mark or next to it */
         forged.deadline = plus(panel->marks[forged.source], (int64_t)random_below(3) - 1);
+    else if (chance(100)) /* at the floor or next to it */
+        forged.deadline = plus(panel->floor, (int64_t)random_below(3) - 1);
     else if (chance(40)) /* above the farthest; rarely at it, as high then stays far ahead */
         forged.deadline = plus(panel->time, PANEL_FARTHEST_AHEAD + (chance(100) ? 0 : 1));
     random_message(&message, panel, forged.source, forged.deadline, forged.mask);

@@ -19,7 +19,7 @@ void forget_frames(void);
 
 uint64_t random_mask(void);
 
-/* A readable message; its entries lie about the marks and about the time. */
+/* A readable message; its entries lie about the marks, about the time and about the floor. */
 void random_message(Message *message, const Panel *panel, uint8_t source,
                     uint32_t deadline, uint64_t mask);
 

@@ -12,7 +12,7 @@ static void any_bytes(Panel *panel)
 {
     random_bytes((uint8_t *)panel, sizeof *panel);
     panel->own = 0;
-    panel->time = panel->high = 0;
+    panel->time = panel->high = panel->floor = 0;
     panel->count = 0;
     memset(panel->marks, 0, sizeof panel->marks);
     memset(panel->barrier, 0, sizeof panel->barrier);
@@ -36,6 +36,9 @@ void random_panel(Panel *panel)
         if (panel->high < panel->barrier[s])
             panel->high = panel->barrier[s];
     }
+    if (chance(400))
+        panel->floor = chance(950) ? plus(about, (int64_t)random_below(100) - 60)
+                                   : UINT32_MAX - random_below(2);
     panel->count = chance(300) ? 32 : random_below(33);
     for (size_t i = 0; i < panel->count; i++) {
         Message message;
@@ -61,6 +64,7 @@ void random_chain(Panel *panel)
     any_bytes(panel);
     panel->own = (uint8_t)random_below(PANELS);
     panel->time = 100 + random_below(10);
+    panel->floor = chance(700) ? 0 : 90 + random_below(70);
     panel->count = chance(600) ? 32 : 1 + random_below(32);
     for (size_t i = 0; i < panel->count; i++) {
         size_t j = random_below((uint32_t)i + 1);
@@ -110,7 +114,7 @@ static void damage_slot(uint8_t *slot)
 void damage_panel(Panel *panel)
 {
     bool some = panel->count > 0 && panel->count <= WAITING_MAX;
-    uint32_t way = random_below(12);
+    uint32_t way = random_below(13);
 
     if (way == 0) {
         panel->own = (uint8_t)(chance(300) ? 64 : 64 + random_below(192));
@@ -131,6 +135,8 @@ void damage_panel(Panel *panel)
         panel->count = chance(500) ? 33 : chance(500) ? SIZE_MAX : (size_t)random_64();
     } else if (way == 7) { /* more or fewer of the slots */
         panel->count = random_below(33);
+    } else if (way == 8) { /* any floor is allowed */
+        panel->floor = chance(300) ? UINT32_MAX : (uint32_t)random_64();
     } else {
         uint32_t place = random_below(some ? (uint32_t)panel->count : WAITING_MAX);
         damage_slot(panel->slots + PANEL_SLOT_BYTES * place);

@@ -9,6 +9,9 @@ static unsigned long seen[KINDS][256];
 static unsigned long handed_seen[WAITING_MAX + 2];
 static unsigned long waiting_seen[WAITING_MAX + 1];
 static unsigned long removed_seen[PANELS]; /* the source of the last one handed has an entry */
+static unsigned long floor_seen[2];  /* left, and raised */
+static unsigned long lapsed_seen[2]; /* by the floor alone, and by the time */
+static unsigned long time_seen[2];   /* left, and lowered */
 static unsigned long visits_seen[2][PANELS + 1]; /* of messages that are not ready, and ready */
 
 void saw_number(uint8_t number)
@@ -28,6 +31,21 @@ void saw_barrier(const uint32_t *before, const uint32_t *after)
     for (int s = 0; s < PANELS; s++)
         removed += before[s] != 0 && after[s] == 0;
     removed_seen[removed]++;
+}
+
+void saw_floor(uint32_t before, uint32_t after)
+{
+    floor_seen[after > before]++;
+}
+
+void saw_lapsed(bool by_time)
+{
+    lapsed_seen[by_time]++;
+}
+
+void saw_set_back(uint32_t before, uint32_t after)
+{
+    time_seen[after < before]++;
 }
 
 void saw_visits(bool ready, size_t visited)
@@ -81,6 +99,11 @@ void print_seen(void)
     printf("barrier entries removed by receives and clock calls: none %lu, 1 %lu, 2 to 7 %lu, "
            "8 to 63 %lu\n", removed_seen[0], removed_seen[1], sum(removed_seen, 2, 7),
            sum(removed_seen, 8, PANELS - 1));
+    printf("floor raised by accepted calls: %lu, and %lu times not; 21 by the floor alone: %lu, by "
+           "the time: %lu\n", floor_seen[true], floor_seen[false], lapsed_seen[false],
+           lapsed_seen[true]);
+    printf("time lowered by set backs: %lu, and %lu times not\n", time_seen[true],
+           time_seen[false]);
     print_visits("ready", visits_seen[true]);
     print_visits("not ready", visits_seen[false]);
     printf("log records read: %lu, and %lu times there was none\n", seen[LOG][0], seen[LOG][1]);

@@ -89,6 +89,12 @@ void to_clock(uint32_t time)
     now.time = time;
 }
 
+void to_set_back(uint32_t time)
+{
+    now.kind = SET_BACK;
+    now.time = time;
+}
+
 void chain_and_send(size_t count)
 {
     chain(count);

@@ -21,6 +21,7 @@ typedef enum {
     RECEIVE_AND_READ, /* receives a frame and reads its log records */
     RECEIVE_BUNDLE,   /* does so with each frame of a bundle */
     CLOCK,
+    SET_BACK,
     KINDS
 } Kind;
 
@@ -111,6 +112,7 @@ void to_receive_bundle(Form form);
 void to_log(size_t count);
 
 void to_clock(uint32_t time);
+void to_set_back(uint32_t time);
 
 /* A chain of so many, and the send that settles it. */
 void chain_and_send(size_t count);

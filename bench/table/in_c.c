@@ -5,7 +5,9 @@ static _Alignas(64) Record record;
 static _Alignas(64) uint8_t output[OUTPUT_MIN];
 static _Alignas(64) uint8_t frame_buffer[FRAME_MAX];
 
-static Worked worked = {&record, &now.record, offsetof(Record, waiting), sizeof(Message), 0, 0};
+static Worked worked = {.record = &record, .kept = &now.record, .size = sizeof(Record),
+                        .front = offsetof(Record, waiting), .message = sizeof(Message),
+                        .floor = offsetof(Record, floor)};
 
 /* Reads the log up to the count, and gives how many records it has. */
 INLINED size_t read_log(Slice log, size_t count)
@@ -75,6 +77,8 @@ INLINED void make_call(Kind kind)
         number = trace_frame(bytes, &written.count);
     else if (kind == CLOCK)
         number = c_clock(&record, now.time, log_buffer, &written);
+    else if (kind == SET_BACK)
+        number = c_set_back(&record, now.time);
     else if (kind == RECEIVE || kind == RECEIVE_AND_READ)
         number = receive_frame(bytes, &written);
     else

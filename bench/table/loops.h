@@ -13,18 +13,24 @@
 typedef struct {
     void *record;
     const void *kept; /* how it was before the call */
+    size_t size;      /* bytes of the record */
     size_t front;     /* bytes in front of the waiting messages */
     size_t message;   /* bytes of a waiting message */
-    size_t from;      /* the first byte that the call changes */
+    size_t floor;     /* where the floor stands, behind the waiting messages */
+    size_t from;      /* the first byte that the call changes, but for the floor */
     size_t changed;   /* how many bytes from there to the last that it changes, or 0 */
+    bool raised;      /* whether it changes the floor */
 } Worked;
 
-/* Puts back what the call changed. */
+/* Puts back what the call changed; the floor by itself, as it stands far behind the rest. */
 INLINED void put_back(const Worked *worked)
 {
     if (worked->changed != 0)
         memcpy((uint8_t *)worked->record + worked->from,
                (const uint8_t *)worked->kept + worked->from, worked->changed);
+    if (worked->raised)
+        memcpy((uint8_t *)worked->record + worked->floor,
+               (const uint8_t *)worked->kept + worked->floor, sizeof(uint32_t));
 }
 
 /* ---- What a caller does with an answer ---- */
@@ -103,6 +109,7 @@ extern const Loops proved_loops, c_loops;
     LOOP(read_loop, make_call, worked, RECEIVE_AND_READ)                          \
     LOOP(received_bundle_loop, make_call, worked, RECEIVE_BUNDLE)                 \
     LOOP(clock_loop, make_call, worked, CLOCK)                                    \
+    LOOP(set_back_loop, make_call, worked, SET_BACK)                              \
                                                                                   \
     static void put_back_loop(long times)                                         \
     {                                                                             \
@@ -114,7 +121,8 @@ extern const Loops proved_loops, c_loops;
                                                                                   \
     const Loops name = {                                                          \
         {check_loop, fresh_loop, log_loop, bundle_loop, trace_loop, send_loop,    \
-         beacon_loop, receive_loop, read_loop, received_bundle_loop, clock_loop}, \
+         beacon_loop, receive_loop, read_loop, received_bundle_loop, clock_loop,  \
+         set_back_loop},                                                          \
         put_back_loop,                                                            \
         worked                                                                    \
     };

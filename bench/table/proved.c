@@ -5,7 +5,9 @@ static _Alignas(64) Panel panel;
 static _Alignas(64) uint8_t output[PANEL_OUTPUT_MIN];
 static _Alignas(64) uint8_t frame_buffer[PANEL_FRAME_MAX];
 
-static Worked worked = {&panel, &now.panel, offsetof(Panel, slots), PANEL_SLOT_BYTES, 0, 0};
+static Worked worked = {.record = &panel, .kept = &now.panel, .size = sizeof(Panel),
+                        .front = offsetof(Panel, slots), .message = PANEL_SLOT_BYTES,
+                        .floor = offsetof(Panel, floor)};
 
 /* Reads the log up to the count, and gives how many records it has. */
 INLINED size_t read_log(const uint8_t *log, size_t log_length, size_t count)
@@ -73,6 +75,8 @@ INLINED void make_call(Kind kind)
         given = trace_frame(now.bytes, now.length);
     else if (kind == CLOCK)
         given = panel_clock(&panel, now.time, output, now.output_length);
+    else if (kind == SET_BACK)
+        given.number = panel_set_back(&panel, now.time);
     else if (kind == RECEIVE || kind == RECEIVE_AND_READ)
         given = receive_frame(now.bytes, now.length);
     else

@@ -70,5 +70,6 @@ void each_row(Visit *visit)
     receive_rows();
     receive_refusal_rows();
     clock_rows();
+    set_back_rows();
     trace_rows();
 }

@@ -31,6 +31,7 @@ void send_rows(void);
 void receive_rows(void);
 void receive_refusal_rows(void);
 void clock_rows(void);
+void set_back_rows(void);
 void trace_rows(void);
 
 #endif

@@ -42,6 +42,23 @@ static void shorter_rows(void)
     row("receive, ready, 64 barrier entries removed", 0, 1);
 }
 
+/* Ready ones whose entries have lapsed, and that the log goes without. */
+static void floor_rows(void)
+{
+    Message ready = usual(50, 2000), largest = longest(50, 2000);
+
+    empty();
+    now.panel.time = 591;
+    for (int source = 40; source < 43; source++)
+        now.panel.marks[source] = 580;
+    to_receive(&ready);
+    row("receive, ready, floor raised, 3 entries", 0, 1);
+    for (int source = 40; source < 43; source++)
+        now.panel.marks[source] = 0;
+    to_receive(&largest);
+    row("receive, ready, floor raised, 64 entries", 0, 1);
+}
+
 static void waits_rows(void)
 {
     Message waits = early(50, 2000), between = middle(50, 2000), largest = longest(50, 2000);
@@ -129,6 +146,7 @@ void receive_rows(void)
 {
     ready_rows();
     shorter_rows();
+    floor_rows();
     waits_rows();
     settle_rows();
     read_rows();

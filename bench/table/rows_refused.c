@@ -36,6 +36,9 @@ static void with_none_waiting_rows(void)
     now.panel.time = 2001;
     row("receive refused, 21, 0 waiting", 21, 0);
     now.panel.time = 10;
+    now.panel.floor = 2000;
+    row("receive refused, 21 by the floor, 0 waiting", 21, 0);
+    now.panel.floor = 0;
     Message far_ahead = usual(50, now.panel.time + PANEL_FARTHEST_AHEAD + 1);
     to_receive(&far_ahead);
     row("receive refused, 32, 0 waiting", 32, 0);

@@ -65,6 +65,9 @@ static void refused_rows(void)
     to_trace(&far_ahead);
     row("trace, 32, 2 entries, 0 waiting", 32, 2);
     to_trace(&ready);
+    now.panel.floor = 2000;
+    row("trace, 21 by the floor, 2 entries, 0 waiting", 21, 2);
+    now.panel.floor = 0;
     now.panel.marks[50] = now.panel.high = 2000;
     row("trace, 22 by mark, 2 entries, 0 waiting", 22, 2);
     now.panel.own = PANELS;

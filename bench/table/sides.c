@@ -10,7 +10,8 @@ Caller caller;
 
 static const Loops *const loops[SIDES] = {&proved_loops, &c_loops};
 
-/* Notes which bytes the call changed, in front of the waiting messages and in so many of them. */
+/* Notes which bytes the call changed, in front of the waiting messages and in so many of them, and
+   whether it changed the floor. */
 static void find_changed(Worked *worked, size_t waiting)
 {
     const uint8_t *before = worked->kept, *after = worked->record;
@@ -22,6 +23,7 @@ static void find_changed(Worked *worked, size_t waiting)
         to--;
     worked->from = from;
     worked->changed = to - from;
+    worked->raised = memcmp(before + worked->floor, after + worked->floor, sizeof(uint32_t)) != 0;
 }
 
 static Side start_side(const Loops *of)
@@ -30,11 +32,12 @@ static Side start_side(const Loops *of)
     Worked *worked = of->worked;
     size_t waiting = now.panel.count <= WAITING_MAX ? now.panel.count : 0;
 
-    memcpy(worked->record, worked->kept, worked->front + worked->message * WAITING_MAX);
+    memcpy(worked->record, worked->kept, worked->size);
     worked->changed = 0;
+    worked->raised = false;
     side.call(1);
     find_changed(worked, waiting);
-    if (worked->changed != 0 && CHANGES_RECORD(now.kind))
+    if ((worked->changed != 0 || worked->raised) && CHANGES_RECORD(now.kind))
         side.put_back = of->put_back;
     return side;
 }

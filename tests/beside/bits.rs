@@ -11,6 +11,12 @@ impl Bits {
         self.0[number / 64] |= 1 << (number % 64);
     }
 
+    pub fn remove(&mut self, number: usize) {
+        if let Some(word) = self.0.get_mut(number / 64) {
+            *word &= !(1 << (number % 64));
+        }
+    }
+
     pub fn has(&self, number: usize) -> bool {
         let word = self.0.get(number / 64).copied().unwrap_or(0);
         word >> (number % 64) & 1 == 1

@@ -31,6 +31,9 @@ pub enum Call {
         reading: u32,
         output: usize,
     },
+    SetBack {
+        reading: u32,
+    },
 }
 
 impl Call {
@@ -76,6 +79,11 @@ impl Call {
         }
     }
 
+    /// A set back.
+    pub fn set_back(reading: u32) -> Call {
+        Call::SetBack { reading }
+    }
+
     /// The same call with buffers of these lengths.
     pub fn lent(mut self, length: usize, frame_length: usize) -> Call {
         match &mut self {
@@ -83,19 +91,19 @@ impl Call {
                 (*output, *frame) = (length, frame_length)
             }
             Call::Receive { output, .. } | Call::Clock { output, .. } => *output = length,
-            Call::Trace { .. } => {}
+            Call::Trace { .. } | Call::SetBack { .. } => {}
         }
         self
     }
 
-    /// The length of the output, 0 for a trace.
+    /// The length of the output, 0 for a trace or a set back.
     pub fn output(&self) -> usize {
         match self {
             Call::Send { output, .. }
             | Call::Beacon { output, .. }
             | Call::Receive { output, .. }
             | Call::Clock { output, .. } => *output,
-            Call::Trace { .. } => 0,
+            Call::Trace { .. } | Call::SetBack { .. } => 0,
         }
     }
 
@@ -112,7 +120,7 @@ impl Call {
         match self {
             Call::Send { payload, .. } | Call::Beacon { payload, .. } => payload,
             Call::Receive { bytes, .. } | Call::Trace { bytes } => bytes,
-            Call::Clock { .. } => &[],
+            Call::Clock { .. } | Call::SetBack { .. } => &[],
         }
     }
 
@@ -140,6 +148,7 @@ impl Call {
                 reading: reading.parse().ok()?,
                 output: output.parse().ok()?,
             }),
+            ["set", "back", reading] => Some(Call::set_back(reading.parse().ok()?)),
             _ => None,
         }
     }
@@ -161,6 +170,7 @@ impl fmt::Display for Call {
             Call::Receive { output, .. } => write!(text, "receive {input} {output}"),
             Call::Trace { .. } => write!(text, "trace {input}"),
             Call::Clock { reading, output } => write!(text, "clock {reading} {output}"),
+            Call::SetBack { reading } => write!(text, "set back {reading}"),
         }
     }
 }

@@ -1,30 +1,11 @@
-//! The claims of demand 3, in document 01's words, on a list of calls. All is computed from the
-//! calls, their answers and what they wrote: nothing here looks into a record.
+//! The claims of demand 3, in the words of documents 01 and 02, on a list of calls. All is computed
+//! from the calls, their answers and what they wrote: nothing here looks into a record.
 
 use crate::bits::Bits;
 use crate::calls::Call;
 use crate::second::{Answer, LOG_RECORD};
+use crate::words::{At, Floors, Message};
 use std::collections::HashMap;
-
-/// A message, and all messages before it in cause.
-struct Message {
-    source: u8,
-    deadline: u32,
-    before: Bits,
-}
-
-/// What the words say of one panel. Messages are numbered in the order in which they came up.
-#[derive(Clone, Default)]
-struct At {
-    time: u32,
-    /// The panel's log, and the set of its messages.
-    log: Vec<usize>,
-    logged: Bits,
-    /// The messages of the log and all before them in cause.
-    past: Bits,
-    sent: Bits,
-    taken: Bits,
-}
 
 /// How many messages at panels the claims spoke of, and how many of them wait rightly.
 #[derive(Clone, Copy, Default)]
@@ -41,6 +22,7 @@ impl Spoken {
 }
 
 pub struct Claims {
+    /// The messages, numbered in the order in which they came up.
     messages: Vec<Message>,
     known: HashMap<(u8, u32), usize>,
     /// The messages of the frames that were sent, by their bytes.
@@ -66,11 +48,10 @@ impl Claims {
         let next = self.messages.len();
         let number = *self.known.entry((source, deadline)).or_insert(next);
         if number == next {
-            let before = Bits::default();
             self.messages.push(Message {
                 source,
                 deadline,
-                before,
+                ..Message::default()
             });
         }
         number
@@ -85,37 +66,56 @@ impl Claims {
         output: &[u8],
         frame: &[u8],
     ) {
-        if answer.number != 0 {
-            return;
-        }
-        match call {
-            Call::Send { .. } | Call::Beacon { .. } => {
+        let at = &mut self.panels[panel];
+        let floor = at.floor;
+        match (call, answer.number) {
+            (Call::Receive { bytes, .. }, 21) => return at.refused(number_of(&bytes[6..10])),
+            (_, 1..) => return,
+            (Call::Send { .. } | Call::Beacon { .. }, 0) => {
                 self.sent(panel, &frame[..answer.length.min(frame.len())])
             }
-            Call::Receive { bytes, .. } => match self.frames.get(bytes) {
-                Some(message) => self.panels[panel].taken.insert(*message),
+            (Call::Receive { bytes, .. }, 0) => match self.frames.get(bytes) {
+                Some(message) => at.take(*message),
                 None => self.void = true,
             },
-            Call::Clock { reading, .. } => self.panels[panel].time = *reading,
-            Call::Trace { .. } => {}
+            (Call::Clock { reading, .. }, 0) => at.clock(*reading, &self.messages),
+            (Call::SetBack { reading }, 0) => at.set_back(*reading),
+            (Call::Trace { .. }, 0) => {}
         }
         for record in output.chunks_exact(LOG_RECORD).take(answer.count) {
-            let message = self.message(record[0], deadline_of(&record[1..5]));
-            let at = &mut self.panels[panel];
-            at.log.push(message);
-            at.logged.insert(message);
-            at.past.insert(message);
-            at.past.join(&self.messages[message].before);
+            let message = self.message(record[0], number_of(&record[1..5]));
+            self.panels[panel].hand(message, &self.messages[message]);
+        }
+        let at = &mut self.panels[panel];
+        match call {
+            Call::Receive { .. } => at.floors.risen_in_receive += u64::from(at.floor > floor),
+            Call::Clock { .. } => at.floors.risen_in_clock += u64::from(at.floor > floor),
+            _ => {}
         }
     }
 
     /// A message was sent: before it in cause are those of the sender's log just before the call,
     /// and all before them.
     fn sent(&mut self, panel: usize, frame: &[u8]) {
-        let message = self.message(frame[5], deadline_of(&frame[6..10]));
+        let message = self.message(frame[5], number_of(&frame[6..10]));
         self.messages[message].before.join(&self.panels[panel].past);
+        self.messages[message].entries = entries_of(frame);
         self.panels[panel].sent.insert(message);
         self.frames.insert(frame.to_vec(), message);
+    }
+
+    /// The floor of a panel.
+    pub fn floor(&self, panel: usize) -> u32 {
+        self.panels[panel].floor
+    }
+
+    /// How often set backs and floors made a difference.
+    pub fn floors(&self) -> Floors {
+        let mut floors = Floors::default();
+        for at in &self.panels {
+            floors.add(at.floors);
+        }
+        floors
     }
 
     /// Checks the claims for the whole list so far. The error has the words of one that does not
@@ -123,7 +123,9 @@ impl Claims {
     pub fn check(&self) -> Result<Spoken, (String, usize)> {
         let mut spoken = Spoken::default();
         for (place, at) in self.panels.iter().enumerate() {
-            let checked = self.check_order(at).and_then(|()| self.check_standing(at));
+            let checked = check_floor(at)
+                .and_then(|()| self.check_order(at))
+                .and_then(|()| self.check_standing(at));
             spoken.add(checked.map_err(|what| (what, place))?);
         }
         Ok(spoken)
@@ -155,7 +157,7 @@ impl Claims {
     fn check_standing(&self, at: &At) -> Result<Spoken, String> {
         let mut lapsed = Bits::default();
         for (number, message) in self.messages.iter().enumerate() {
-            if message.deadline < at.time {
+            if at.lapsed(message.deadline) {
                 lapsed.insert(number);
             }
         }
@@ -196,9 +198,31 @@ impl Claims {
     }
 }
 
-/// A deadline's four bytes, the highest first.
-fn deadline_of(bytes: &[u8]) -> u32 {
+/// Where the time was never lowered, whatever is at most the floor is below the time: the floor
+/// decides nothing.
+fn check_floor(at: &At) -> Result<(), String> {
+    match at.was_set_back || at.floor == 0 || at.floor < at.time {
+        true => Ok(()),
+        false => Err(format!(
+            "floor {} at time {}, though the clock was never set back",
+            at.floor, at.time
+        )),
+    }
+}
+
+/// The entries of a frame: the panels of its mask, lowest first, each with its entry.
+fn entries_of(frame: &[u8]) -> Vec<(u8, u32)> {
+    let (high, low) = (number_of(&frame[10..14]), number_of(&frame[14..18]));
+    let mask = u64::from(high) << 32 | u64::from(low);
+    let panels = (0..64).filter(|panel| mask >> panel & 1 == 1);
+    panels
+        .zip(frame[18..].chunks_exact(4).map(number_of))
+        .collect()
+}
+
+/// A number of four bytes, the highest first.
+fn number_of(bytes: &[u8]) -> u32 {
     bytes
         .iter()
-        .fold(0, |deadline, byte| deadline << 8 | u32::from(*byte))
+        .fold(0, |number, byte| number << 8 | u32::from(*byte))
 }

@@ -8,7 +8,7 @@ use crate::module::Record;
 use crate::random::Random;
 use crate::room::Room;
 use crate::same::{all_zero, foretold, same_answer, same_number, same_records};
-use crate::same::{unchanged, untouched};
+use crate::same::{only_time_changed, unchanged, untouched};
 use crate::script::{Script, Start};
 use crate::second::{self, Answer, Make};
 use crate::side::{call_second, Found};
@@ -96,11 +96,13 @@ impl Both {
     fn make(&mut self, pair: &mut Pair, call: &Call) -> Result<Answer, Found> {
         let by_module = self.call_module(&mut pair.module, call);
         let by_second = call_second(&mut pair.second, call, &mut self.second_room);
-        self.counts.call(call, by_module, pair.module.count);
-        self.compare(pair, by_module, by_second).map_err(|what| {
+        let compared = self.compare(pair, call, by_module, by_second);
+        compared.map_err(|what| {
             let answers = format!("module: {by_module}\nsecond: {by_second}\n");
             Found::new(answers + &what).with(self.script(pair))
         })?;
+        let (before, after) = (&self.before, &pair.module);
+        self.counts.call(call, by_module, before, after);
         Ok(by_module)
     }
 
@@ -113,11 +115,18 @@ impl Both {
             Call::Receive { .. } => record.receive(input, output),
             Call::Trace { .. } => record.trace(input),
             Call::Clock { reading, .. } => record.clock(*reading, output),
+            Call::SetBack { reading } => record.set_back(*reading),
         }
     }
 
     /// Compares answers, buffers and records after a call.
-    fn compare(&self, pair: &Pair, module: Answer, second: Answer) -> Result<(), String> {
+    fn compare(
+        &self,
+        pair: &Pair,
+        call: &Call,
+        module: Answer,
+        second: Answer,
+    ) -> Result<(), String> {
         same_answer(module, second)?;
         if let Some(what) = self.room.difference(&self.second_room) {
             return Err(what);
@@ -125,6 +134,9 @@ impl Both {
         let traced = module.test.is_some();
         if module.number != 0 || traced {
             unchanged(&self.before, &pair.module)?;
+        }
+        if let Call::SetBack { .. } = call {
+            only_time_changed(&self.before, &pair.module)?;
         }
         untouched(&self.before, &pair.module)?;
         match pair.broken || traced {

@@ -2,13 +2,15 @@
 
 use crate::calls::Call;
 use crate::lists::Done;
+use crate::module::Record;
+use crate::rows::{self, BesideShadows, OfRecords, Rows};
 use crate::second::{Answer, Test};
 use crate::shadow::{Rule, Seen};
 use std::collections::{BTreeMap, BTreeSet};
 use std::fmt::Write;
 
 /// What answers a number, and which ones it has to answer in a run. It never answers another.
-const ASKED: [(&str, &[u8]); 7] = [
+const ASKED: [(&str, &[u8]); 8] = [
     ("fresh", &[0, 11]),
     ("send", &[0, 9, 10, 24, 26]),
     ("beacon", &[0, 9, 10, 24, 26]),
@@ -17,6 +19,7 @@ const ASKED: [(&str, &[u8]); 7] = [
         &[0, 1, 2, 3, 4, 5, 6, 7, 8, 10, 20, 21, 22, 23, 26, 32],
     ),
     ("clock", &[0, 10, 25, 26]),
+    ("set back", &[0, 26]),
     (
         "trace",
         &[0, 1, 2, 3, 4, 5, 6, 7, 8, 20, 21, 22, 23, 26, 32],
@@ -27,54 +30,6 @@ const ASKED: [(&str, &[u8]); 7] = [
 const VISITS: usize = 4;
 /// With so many calls of lists, each count that has to come up has to have done so.
 const MANY_CALLS: u64 = 100_000;
-
-/// Counts of lists, their words, and whether they have to come up in many calls.
-type Rows = Vec<(u64, &'static str, bool)>;
-
-/// What was seen beside shadows.
-#[derive(Default)]
-struct BesideShadows {
-    calls: u64,
-    /// Calls at panels that had been brought from one make to the other.
-    brought: u64,
-    frames: u64,
-    /// Frames that were shorter than the shadow's, and by how many bytes.
-    shorter: u64,
-    bytes_less: u64,
-    /// Calls that left a barrier entry that was neither the shadow's nor removed.
-    lower: u64,
-}
-
-impl BesideShadows {
-    fn add(&mut self, seen: &Seen) {
-        let bytes_less = seen.shorter.unwrap_or(0);
-        self.calls += 1;
-        self.brought += u64::from(seen.brought);
-        self.frames += u64::from(seen.shorter.is_some());
-        self.shorter += u64::from(bytes_less > 0);
-        self.bytes_less += bytes_less as u64;
-        self.lower += u64::from(seen.lower);
-    }
-
-    fn rows(&self, forged: bool) -> Rows {
-        vec![
-            (self.calls, "calls", true),
-            (
-                self.brought,
-                "calls at panels brought to the other make",
-                true,
-            ),
-            (self.frames, "frames sent", true),
-            (self.shorter, "frames shorter than the shadow's", true),
-            (self.bytes_less, "bytes shorter, all together", true),
-            (
-                self.lower,
-                "calls that left a lower barrier entry than the shadow's",
-                forged,
-            ),
-        ]
-    }
-}
 
 #[derive(Default)]
 pub struct Counts {
@@ -92,6 +47,7 @@ pub struct Counts {
     tests: [[u64; VISITS]; 2],
     most_visited: usize,
     lists: Done,
+    of_records: OfRecords,
     /// What was seen beside shadows in lists of demand 3, and in others.
     beside_shadows: [BesideShadows; 2],
     pub bundle_steps: u64,
@@ -105,23 +61,25 @@ impl Counts {
     }
 
     pub fn check(&mut self, number: u8) {
-        self.count(6, number);
+        self.count(7, number);
     }
 
     pub fn lists(&mut self, done: &Done) {
         self.lists = *done;
     }
 
-    /// Counts a call, after which so many messages are waiting.
-    pub fn call(&mut self, call: &Call, answer: Answer, waiting: usize) {
+    /// Counts a call that was made on a record of the module.
+    pub fn call(&mut self, call: &Call, answer: Answer, before: &Record, after: &Record) {
         let asked = match call {
             Call::Send { .. } => 1,
             Call::Beacon { .. } => 2,
             Call::Receive { .. } => 3,
             Call::Clock { .. } => 4,
-            Call::Trace { .. } => 5,
+            Call::SetBack { .. } => 5,
+            Call::Trace { .. } => 6,
         };
         self.count(asked, answer.number);
+        self.of_records.add(call, answer, before, after);
         if let Some(test) = answer.test {
             return self.test(test);
         }
@@ -130,7 +88,7 @@ impl Counts {
             self.waited += u64::from(asked == 3 && answer.count == 0);
             self.several += u64::from(answer.count > 1);
             self.most_handed = self.most_handed.max(answer.count);
-            self.most_waiting = self.most_waiting.max(waiting);
+            self.most_waiting = self.most_waiting.max(after.count);
         }
     }
 
@@ -152,7 +110,7 @@ impl Counts {
 
     /// All calls but traces and those of the frame check.
     pub fn calls(&self) -> u64 {
-        self.answered[..5].iter().flat_map(BTreeMap::values).sum()
+        self.answered[..6].iter().flat_map(BTreeMap::values).sum()
     }
 
     /// Each number that was never answered where documents 01 and 02 have it, or answered where
@@ -223,14 +181,14 @@ impl Counts {
         [
             (
                 self.calls(),
-                "calls of fresh, send, beacon, receive and clock",
+                "calls of fresh, send, beacon, receive, clock and set back",
             ),
             (self.records, "log records"),
             (self.waited, "messages that waited"),
             (self.several, "calls that handed several messages"),
             (self.most_handed as u64, "most handed by one call"),
             (self.most_waiting as u64, "most waiting"),
-            (self.answered[5].values().sum(), "traces"),
+            (self.answered[6].values().sum(), "traces"),
             (self.tests[1].iter().sum(), "traces that said ready"),
             (visited(0), "traces without a visit"),
             (visited(1), "traces with one visit"),
@@ -243,11 +201,13 @@ impl Counts {
         ]
     }
 
-    /// The counts of the lists, in groups.
-    fn groups(&self) -> [(&'static str, Rows); 3] {
+    /// The counts that have to come up, in groups.
+    fn groups(&self) -> [(&'static str, Rows); 5] {
         let [lawful, forged] = &self.beside_shadows;
         [
-            ("in lists", self.rows_of_lists()),
+            ("in all parts", self.of_records.rows()),
+            ("in lists", rows::of_lists(&self.lists)),
+            ("in lists of demand 3", rows::of_floors(self.lists.floors)),
             (
                 "in lists of demand 3, beside shadows of the old make",
                 lawful.rows(false),
@@ -256,35 +216,6 @@ impl Counts {
                 "in lists with forged frames, beside shadows of the old make",
                 forged.rows(true),
             ),
-        ]
-    }
-
-    fn rows_of_lists(&self) -> Rows {
-        let done = self.lists;
-        vec![
-            (done.lists, "lists", false),
-            (done.calls, "calls", false),
-            (done.old_calls, "calls on panels of the old make", true),
-            (done.brought, "panels brought to the other make", true),
-            (
-                done.new_took_old,
-                "messages of old panels taken at new ones",
-                true,
-            ),
-            (
-                done.old_took_new,
-                "messages of new panels taken at old ones",
-                true,
-            ),
-            (done.sent_far_ahead, "messages sent far ahead", true),
-            (done.taken_later, "messages taken after a 32", true),
-            (done.claim_checks, "checks of demand 3's claims", false),
-            (
-                done.spoken.messages,
-                "messages at panels that the last check of each list spoke of",
-                false,
-            ),
-            (done.spoken.waiting, "of them waiting for others", false),
         ]
     }
 }

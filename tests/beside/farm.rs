@@ -60,7 +60,9 @@ impl<'side, S: Side> Farm<'side, S> {
         if self.plan.lawful {
             let (output, frame) = (self.side.output(), self.side.frame());
             self.claims.after(place, call, answer, output, frame);
+            self.check_floor(place)?;
         }
+        let member = &mut self.members[place];
         if answer.number == 0 {
             match call {
                 Call::Send { .. } | Call::Beacon { .. } => {
@@ -73,6 +75,7 @@ impl<'side, S: Side> Farm<'side, S> {
                     self.makes.push(member.make);
                 }
                 Call::Clock { reading, .. } => member.time = *reading,
+                Call::SetBack { reading } => member.time = member.time.min(*reading),
                 Call::Receive { .. } | Call::Trace { .. } => {}
             }
         }
@@ -96,16 +99,32 @@ impl<'side, S: Side> Farm<'side, S> {
             return Ok(Spoken::default());
         }
         self.done.claim_checks += 1;
-        self.claims.check().map_err(|(what, place)| {
-            let member = &self.members[place];
-            let (number, make) = (member.number, member.make);
-            let what = format!("demand 3, panel {number} of the make {make:?}: {what}");
-            Found::new(what).with(self.side.script(&member.panel))
-        })
+        let checked = self.claims.check();
+        checked.map_err(|(what, place)| self.against_demand_3(place, &what))
+    }
+
+    /// The floor in a panel's record is that which the claims count.
+    fn check_floor(&self, place: usize) -> Result<(), Found> {
+        let counted = self.claims.floor(place);
+        match self.side.floor(&self.members[place].panel) {
+            Some(floor) if floor != counted && !self.claims.void => {
+                let what = format!("floor {floor} in the record, {counted} counted");
+                Err(self.against_demand_3(place, &what))
+            }
+            _ => Ok(()),
+        }
+    }
+
+    /// What was found at a panel that is not as demand 3 has it.
+    fn against_demand_3(&self, place: usize, what: &str) -> Found {
+        let member = &self.members[place];
+        let (number, make) = (member.number, member.make);
+        let what = format!("demand 3, panel {number} of the make {make:?}: {what}");
+        Found::new(what).with(self.side.script(&member.panel))
     }
 
     /// Buffers that are long enough.
-    fn lent(&mut self, call: Call) -> Call {
+    pub fn lent(&mut self, call: Call) -> Call {
         let longer = |random: &mut Random| match random.below(4) {
             0 => random.below(200),
             1 => 1,
@@ -192,7 +211,7 @@ impl<'side, S: Side> Farm<'side, S> {
     }
 
     /// A frame is passed on. Refused for lack of places, or as far ahead, it may be so again.
-    fn pass(&mut self, taker: usize, frame: usize) -> Result<(), Found> {
+    pub fn pass(&mut self, taker: usize, frame: usize) -> Result<(), Found> {
         let call = self.lent(Call::receive(&self.frames[frame]));
         let answer = self.call(taker, &call)?;
         let member = &mut self.members[taker];

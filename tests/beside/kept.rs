@@ -12,6 +12,7 @@ pub struct Kept {
     pub high: u32,
     pub marks: [u32; 64],
     pub barrier: [u32; 64],
+    pub floor: u32,
     /// How many messages the record says are waiting.
     pub count: usize,
     /// The frames of the first 32 of them. A slot has room for 307 bytes: of a longer frame the
@@ -49,6 +50,7 @@ impl Kept {
             high: 0,
             marks: [0; 64],
             barrier: [0; 64],
+            floor: 0,
             count: 0,
             frames: Vec::new(),
         }
@@ -63,6 +65,7 @@ impl Kept {
             high: panel.high,
             marks: panel.marks(),
             barrier: panel.barrier_entries(),
+            floor: panel.floor,
             count,
             frames: (0..count)
                 .map(|place| panel.waiting(place).into_owned())
@@ -73,7 +76,8 @@ impl Kept {
     /// Reads the text of a record.
     pub fn read(line: &str) -> Option<Kept> {
         let items: Vec<&str> = line.split_whitespace().collect();
-        let ["record", own, time, high, marks, barrier, count, ref frames @ ..] = items[..] else {
+        let ["record", own, time, high, marks, barrier, floor, count, ref frames @ ..] = items[..]
+        else {
             return None;
         };
         Some(Kept {
@@ -82,6 +86,7 @@ impl Kept {
             high: high.parse().ok()?,
             marks: read_entries(marks)?,
             barrier: read_entries(barrier)?,
+            floor: floor.parse().ok()?,
             count: count.parse().ok()?,
             frames: frames
                 .iter()
@@ -94,8 +99,12 @@ impl Kept {
 impl fmt::Display for Kept {
     fn fmt(&self, text: &mut fmt::Formatter) -> fmt::Result {
         let (marks, barrier) = (entries(&self.marks), entries(&self.barrier));
-        let (own, time, high, count) = (self.own, self.time, self.high, self.count);
-        write!(text, "record {own} {time} {high} {marks} {barrier} {count}")?;
+        let (own, time, high) = (self.own, self.time, self.high);
+        let (floor, count) = (self.floor, self.count);
+        write!(
+            text,
+            "record {own} {time} {high} {marks} {barrier} {floor} {count}"
+        )?;
         for frame in &self.frames {
             write!(text, " {}", hexadecimal::write(frame))?;
         }

@@ -8,6 +8,7 @@ use crate::plan::Plan;
 use crate::random::Random;
 use crate::second::{FARTHEST_AHEAD, FRAME, OUTPUT};
 use crate::side::{Found, Side};
+use crate::words::Floors;
 
 /// What was done in a list, or in several.
 #[derive(Clone, Copy, Default)]
@@ -19,6 +20,8 @@ pub struct Done {
     pub claim_checks: u64,
     /// What the claims spoke of at the ends of the lists.
     pub spoken: Spoken,
+    /// What set backs and floors came to in lists of demand 3.
+    pub floors: Floors,
     /// Messages sent that were far ahead at their panel.
     pub sent_far_ahead: u64,
     /// Messages taken that had been refused there as far ahead.
@@ -40,6 +43,7 @@ impl Done {
         self.void += more.void;
         self.claim_checks += more.claim_checks;
         self.spoken.add(more.spoken);
+        self.floors.add(more.floors);
         self.sent_far_ahead += more.sent_far_ahead;
         self.taken_later += more.taken_later;
         self.old_calls += more.old_calls;
@@ -99,6 +103,7 @@ impl<S: Side> Farm<'_, S> {
             match kind {
                 0 => self.send(place)?,
                 1 if other != place => self.contact(other, place)?,
+                2 if self.random.chance(self.plan.wrong_years) => self.wrong_year(place, other)?,
                 2 if self.random.chance(30) => self.clock_and_pass(place)?,
                 2 => self.clock(place)?,
                 3 => self.odd(place)?,
@@ -108,6 +113,7 @@ impl<S: Side> Farm<'_, S> {
             }
         }
         self.done.void = u64::from(self.claims.void);
+        self.done.floors = self.claims.floors();
         self.done.spoken = self.check_claims()?;
         Ok(())
     }
@@ -116,17 +122,18 @@ impl<S: Side> Farm<'_, S> {
     fn odd(&mut self, place: usize) -> Result<(), Found> {
         let random = &mut self.random;
         let (number, time) = (self.members[place].number, self.members[place].time);
-        let call = match random.below(4) {
+        let call = match random.below(5) {
             0 => odd_send(random),
             1 => {
                 let back = random.any_size().min(time);
                 Call::clock(time - back.min(random.pick(&[0, 1, u32::MAX])))
             }
+            2 => Call::set_back(self.plan.odd_set_back(time, random)),
             _ if self.frames.is_empty() => {
                 let length = random.below(40);
                 Call::receive(&random.bytes(length))
             }
-            2 => {
+            3 => {
                 let own: Vec<&Vec<u8>> = self
                     .frames
                     .iter()

@@ -13,6 +13,7 @@ mod compare;
 mod compose;
 mod counts;
 mod farm;
+mod floors;
 mod frames;
 mod hexadecimal;
 mod kept;
@@ -23,16 +24,21 @@ mod module;
 mod plan;
 mod random;
 mod records;
+mod rises;
 mod room;
+mod rows;
 mod same;
 mod script;
 mod second;
+mod set_backs;
 mod shadow;
 mod side;
 mod stays;
 mod traces;
 mod trials;
+mod words;
 mod yards;
+mod years;
 
 use compare::Both;
 use mixed::Mixed;
@@ -110,6 +116,8 @@ fn compare_all(options: &Options, both: &mut Both) -> Result<(), Found> {
     ahead::run(both, list).map_err(named)?;
     let named = part("barriers", "shorter barriers, at panels of both makes");
     barriers::run(both).map_err(named)?;
+    let named = part("floors", "the floor, and clocks that are set back");
+    floors::run(both).map_err(named)?;
     let named = part("bundles", "bundles at every place, and logs at every index");
     bundles::readers(both, seed, calls / 1_000 + 1).map_err(named)?;
     let named = part(

@@ -11,6 +11,8 @@ pub struct Member<Panel> {
     pub time: u32,
     /// What the panel's clock shows. It may go another way than that of other panels.
     pub clock: u32,
+    /// What it would show, where it shows a wrong year.
+    pub right: Option<u32>,
     pub held: Vec<usize>,
     holds: Bits,
     /// Frames that were refused here as far ahead.
@@ -25,6 +27,7 @@ impl<Panel> Member<Panel> {
             make,
             time: 0,
             clock,
+            right: None,
             held: Vec::new(),
             holds: Bits::default(),
             refused: Vec::new(),

@@ -46,8 +46,8 @@ pub struct Mixed<'both> {
     alone: Alone,
     /// The make of the panel that the last call was made on.
     last: Make,
-    /// Whether panels that are to have a shadow get one.
-    shadows: bool,
+    /// Whether all but the claims is left out: shadows, and the floors of the records.
+    claims_alone: bool,
 }
 
 impl<'both> Mixed<'both> {
@@ -56,13 +56,13 @@ impl<'both> Mixed<'both> {
             both,
             alone: Alone::new(Random::new(seed, 1)),
             last: Make::New,
-            shadows: true,
+            claims_alone: false,
         }
     }
 
-    /// The same without shadows.
-    pub fn without_shadows(mut self) -> Mixed<'both> {
-        self.shadows = false;
+    /// The same without shadows, and without the floors of the records.
+    pub fn claims_alone(mut self) -> Mixed<'both> {
+        self.claims_alone = true;
         self
     }
 
@@ -119,7 +119,7 @@ impl Side for Mixed<'_> {
             Make::Old => Now::Old(self.alone.fresh(number, kind)?),
             Make::New => Now::New(self.both.fresh(number)?),
         };
-        let rule = kind.shadow.filter(|_| self.shadows);
+        let rule = kind.shadow.filter(|_| !self.claims_alone);
         let shadow = rule.map(|rule| Shadow::new(number, rule));
         Ok(Panel { now, shadow })
     }
@@ -158,6 +158,14 @@ impl Side for Mixed<'_> {
         match self.last {
             Make::Old => self.alone.frame(),
             Make::New => self.both.frame(),
+        }
+    }
+
+    fn floor(&self, panel: &Panel) -> Option<u32> {
+        match &panel.now {
+            _ if self.claims_alone => None,
+            Now::Old(panel) => Some(panel.floor),
+            Now::New(pair) => Some(pair.module.floor),
         }
     }
 

@@ -123,6 +123,9 @@ pub struct Plan {
     pub clock_step: usize,
     /// How many clock calls in a hundred jump ahead.
     pub jumps: usize,
+    /// How many clocks in a hundred are set to a wrong year as they are read. If there are none, no
+    /// set back of the list lowers a time.
+    pub wrong_years: usize,
     pub lifetimes: Lifetimes,
     /// How many sends in a hundred are beacons.
     pub beacons: usize,
@@ -174,6 +177,7 @@ impl Plan {
             clocks: random.pick(&[Near, Near, Apart, Apart, Wide, Last, Weeks, LastWeeks]),
             clock_step: random.pick(&[0, 1, 3, 30]),
             jumps: random.pick(&[0, 0, 0, 2]),
+            wrong_years: random.pick(&[0, 0, 20, 60]),
             lifetimes: random.pick(&[Lifetimes::Short, Lifetimes::Default, Lifetimes::Any]),
             beacons: random.pick(&[0, 0, 10, 50]),
             order: random.pick(&[Any, Any, OldestFirst, NewestFirst]),
@@ -221,6 +225,17 @@ impl Plan {
         kinds
     }
 
+    /// A set back with a reading of any kind, at this time.
+    pub fn odd_set_back(&self, time: u32, random: &mut Random) -> u32 {
+        let change = random.any_size();
+        match random.below(4) {
+            0 => time,
+            1 => random.pick(&[time.saturating_add(1), u32::MAX]),
+            2 if self.wrong_years > 0 => time.saturating_sub(random.pick(&[1, 5, change])),
+            _ => time.saturating_add(change),
+        }
+    }
+
     /// A list with forged frames. The claims are not checked there: panels of the old make have a
     /// part in it only as they are brought to the new make, beside their shadows.
     fn forges(&mut self, random: &mut Random) {
@@ -240,6 +255,7 @@ impl Plan {
         self.calls = self.calls.max(200);
         self.clocks = random.pick(&[Clocks::Near, Clocks::Apart, Clocks::Wide, Clocks::Weeks]);
         self.clock_step = random.pick(&[1, 3]);
+        self.wrong_years = random.pick(&[0, 40, 80]);
         self.lost = random.pick(&[0, 5, 30]);
         self.twice = random.pick(&[10, 30, 50]);
         self.most_passed = random.pick(&[8, 50]);

@@ -6,14 +6,15 @@ use crate::calls::Call;
 use crate::compare::Both;
 use crate::compose;
 use crate::kept::Kept;
+use crate::module::LIKE_A_SLOT;
 use crate::random::Random;
 use crate::second::{FARTHEST_AHEAD, FRAME, OUTPUT, WAITING};
 use crate::side::Found;
 
 /// The ways in which a record is broken.
 const WAYS: u64 = 14;
-/// The kinds of calls: send, beacon, receive and clock.
-const KINDS: usize = 4;
+/// The kinds of calls: send, beacon, receive, clock and set back.
+const KINDS: usize = 5;
 /// Lifetimes of interest.
 const LIFETIMES: [u16; 11] = [0, 1, 2, 3, 1199, 1200, 1201, 7199, 7200, 7201, u16::MAX];
 
@@ -80,6 +81,19 @@ fn entries(numbers: &[u32], high: u32, random: &mut Random) -> [u32; 64] {
     })
 }
 
+/// A floor: none, one near the time or a deadline, or any other, which may be above all of them.
+fn any_floor(time: u32, numbers: &[u32], random: &mut Random) -> u32 {
+    let change = random.pick(&[0, 0, 1, 2]);
+    match random.below(12) {
+        0..=4 => 0,
+        5 => time.saturating_sub(change),
+        6 => time.saturating_add(change),
+        7 => random.pick(&[u32::MAX, LIKE_A_SLOT]),
+        8 => random.pick(numbers).saturating_sub(change),
+        _ => random.pick(numbers),
+    }
+}
+
 /// A record that 26 lets through.
 fn sound(numbers: &[u32], random: &mut Random) -> Kept {
     let high = random.pick(numbers);
@@ -88,12 +102,14 @@ fn sound(numbers: &[u32], random: &mut Random) -> Kept {
         1 => random.between(31, 32),
         _ => random.below(WAITING + 1),
     };
+    let time = random.pick(numbers);
     let mut kept = Kept {
         own: random.below(64) as u8,
-        time: random.pick(numbers),
+        time,
         high,
         marks: entries(numbers, high, random),
         barrier: entries(numbers, high, random),
+        floor: any_floor(time, numbers, random),
         count,
         frames: Vec::new(),
     };
@@ -161,6 +177,13 @@ fn any_payload(random: &mut Random) -> Vec<u8> {
     }
 }
 
+/// A clock reading, near the time or another number.
+fn any_reading(kept: &Kept, numbers: &[u32], random: &mut Random) -> u32 {
+    let near = [kept.time, random.pick(numbers)];
+    let change = random.pick(&[0, 0, 1, u32::MAX]);
+    random.pick(&near).wrapping_add(change)
+}
+
 /// A call of this kind.
 fn any_call(kind: usize, kept: &Kept, numbers: &[u32], random: &mut Random) -> Call {
     let call = match kind {
@@ -181,11 +204,8 @@ fn any_call(kind: usize, kept: &Kept, numbers: &[u32], random: &mut Random) -> C
                 _ => Call::receive(&frame),
             }
         }
-        _ => {
-            let near = [kept.time, random.pick(numbers)];
-            let change = random.pick(&[0, 0, 1, u32::MAX]);
-            Call::clock(random.pick(&near).wrapping_add(change))
-        }
+        3 => Call::clock(any_reading(kept, numbers, random)),
+        _ => Call::set_back(any_reading(kept, numbers, random)),
     };
     let output = compose::buffer_length(OUTPUT, random);
     call.lent(output, compose::buffer_length(FRAME, random))

@@ -49,19 +49,36 @@ pub fn foretold(trace: Answer, call: &Call, answer: Answer, output: &[u8]) -> Re
     }
 }
 
-/// After a refusal or a trace the module's record has every byte that it had.
-pub fn unchanged(before: &Record, after: &Record) -> Result<(), String> {
+/// What a byte of the record is that is not as it was, if there is one.
+fn changed(before: &Record, after: &Record) -> Option<String> {
     if before.bytes() == after.bytes() {
-        return Ok(());
+        return None;
     }
     let mut pairs = before.bytes().iter().zip(after.bytes());
-    let place = pairs
-        .position(|(before, after)| before != after)
-        .unwrap_or(0);
-    let name = Record::name_of(place);
-    Err(format!(
-        "the module refused or traced, and changed its record: {name}"
-    ))
+    let place = pairs.position(|(before, after)| before != after);
+    Some(Record::name_of(place.unwrap_or(0)))
+}
+
+/// After a refusal or a trace the module's record has every byte that it had.
+pub fn unchanged(before: &Record, after: &Record) -> Result<(), String> {
+    match changed(before, after) {
+        None => Ok(()),
+        Some(name) => Err(format!(
+            "the module refused or traced, and changed its record: {name}"
+        )),
+    }
+}
+
+/// A set back changes no byte of the module's record but the time.
+pub fn only_time_changed(before: &Record, after: &Record) -> Result<(), String> {
+    let mut with_its_time = before.clone();
+    with_its_time.time = after.time;
+    match changed(&with_its_time, after) {
+        None => Ok(()),
+        Some(name) => Err(format!(
+            "a set back of the module changed more than the time: {name}"
+        )),
+    }
 }
 
 /// No call touches a byte that belongs to no field.
@@ -100,6 +117,7 @@ pub fn same_records(module: &Record, second: &second::Panel) -> Result<(), Strin
     same_number("own", u64::from(module.own), u64::from(second.own))?;
     same_number("time", u64::from(module.time), u64::from(second.time))?;
     same_number("high", u64::from(module.high), u64::from(second.high))?;
+    same_number("floor", u64::from(module.floor), u64::from(second.floor))?;
     same_number("waiting", module.count as u64, second.count() as u64)?;
     same_entries("mark", &module.marks, &second.marks())?;
     same_entries("barrier entry", &module.barrier, &second.barrier_entries())?;

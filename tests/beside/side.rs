@@ -61,6 +61,9 @@ pub trait Side {
 
     fn frame(&self) -> &[u8];
 
+    /// The floor in the record of a panel, if it is to be held against the counted one.
+    fn floor(&self, panel: &Self::Panel) -> Option<u32>;
+
     /// The calls on a panel so far, if they are kept.
     fn script(&self, panel: &Self::Panel) -> Option<Script>;
 }
@@ -74,6 +77,7 @@ pub fn call_second(panel: &mut second::Panel, call: &Call, room: &mut Room) -> A
         Call::Receive { .. } => panel.receive(input, output),
         Call::Trace { .. } => panel.trace(input),
         Call::Clock { reading, .. } => panel.clock(*reading, output),
+        Call::SetBack { reading } => panel.set_back(*reading),
     }
 }
 
@@ -117,6 +121,10 @@ impl Side for Alone {
 
     fn frame(&self) -> &[u8] {
         self.room.frame()
+    }
+
+    fn floor(&self, _: &second::Panel) -> Option<u32> {
+        None
     }
 
     fn script(&self, _: &second::Panel) -> Option<Script> {

@@ -5,7 +5,7 @@ use crate::mixed::Mixed;
 use crate::random::Random;
 use crate::second::faults::{plant, Fault, FAULTS};
 use crate::side::{Alone, Found};
-use crate::{ahead, barriers, bundles, cases, frames, lists, records};
+use crate::{ahead, barriers, bundles, cases, floors, frames, lists, records};
 use std::path::Path;
 use std::sync::atomic::{AtomicUsize, Ordering};
 use std::sync::Mutex;
@@ -66,6 +66,39 @@ const BREAK_DEMAND_3: &[Fault] = &[
     Fault::SendStopsFarAhead,
     Fault::FarAheadHighLeftOut,
     Fault::FarAheadEntriesStripped,
+    Fault::FloorNotAsked,
+    Fault::FloorNotAskedOfReceived,
+    Fault::FloorNotAskedOfEntries,
+    Fault::FloorItselfAlive,
+    Fault::OneAboveFloorLapsed,
+    Fault::LapsedByBoth,
+    Fault::FloorNeverRises,
+    Fault::ReachedRaisesFloor,
+    Fault::EqualToMarkRaisesFloor,
+    Fault::EachEntryRaisesFloor,
+    Fault::BarrierAskedForFloor,
+    Fault::MarkAfterHandingAsked,
+    Fault::SmallestMissed,
+    Fault::FirstMissed,
+    Fault::LastMissed,
+    Fault::FloorOverwritten,
+    Fault::FloorRisesToDeadline,
+    Fault::FloorRisesToTime,
+    Fault::FloorStaysOnArrival,
+    Fault::FloorStaysWhileSettling,
+    Fault::FloorStaysInClock,
+    Fault::RefusedRaisesFloor,
+    Fault::DroppedRaisesFloor,
+    Fault::ClockResetsFloor,
+    Fault::SendResetsFloor,
+    Fault::SetBackRaisesTime,
+    Fault::SetBackLeavesTime,
+    Fault::SetBackDropsAll,
+    Fault::SetBackResetsFloor,
+    Fault::SetBackLowersFloor,
+    Fault::SetBackRaisesFloor,
+    Fault::SetBackForgetsMarks,
+    Fault::FloorEntriesStripped,
     Fault::WaitingCopyTaken,
     Fault::LoggedCopyTaken,
     Fault::MaskFromTheTop,
@@ -82,6 +115,9 @@ const BREAK_DEMAND_3_WHERE_MIXED: &[Fault] = &[
     Fault::OldMakeKeepsTheHighest,
     Fault::OldMakeHandsOnArrival,
     Fault::OldMakeDoesNotSettle,
+    Fault::OldMakeAsksNoFloor,
+    Fault::OldMakeFloorStays,
+    Fault::OldMakeNotSetBack,
 ];
 
 /// How a fault was noticed: the part, and after how many calls.
@@ -103,6 +139,7 @@ fn run_part(part: &str, long: u64, both: &mut Both, seed: u64, list: &Path) -> R
         "cases" => cases::run(both, list),
         "ahead" => ahead::run(both, list),
         "barriers" => barriers::run(both),
+        "floors" => floors::run(both),
         "frames" => frames::run(both, seed, long),
         "records" => records::run(both, seed ^ long, long),
         "bundles" => bundles::readers(both, seed, long),
@@ -118,6 +155,7 @@ fn compared(fault: Option<Fault>, seed: u64, list: &Path) -> Option<Noticed> {
         ("cases", 1),
         ("ahead", 1),
         ("barriers", 1),
+        ("floors", 1),
         ("frames", 1),
         ("bundles", 80),
         ("lists", 2_000),
@@ -151,7 +189,7 @@ fn claimed(fault: Option<Fault>, seed: u64) -> Option<u64> {
 fn found_where_mixed(fault: Option<Fault>, seed: u64) -> Option<(Found, u64)> {
     plant(fault);
     let mut both = Both::new(Random::new(seed, 0));
-    let mut mixed = Mixed::new(&mut both, seed).without_shadows();
+    let mut mixed = Mixed::new(&mut both, seed).claims_alone();
     let found = lists::run(&mut mixed, seed, CLAIM_CALLS, true).err();
     let calls = mixed.calls();
     plant(None);

@@ -28,6 +28,7 @@ impl Record {
                 self.marks.as_mut_ptr(),
                 self.barrier.as_mut_ptr(),
                 self.slots.as_mut_ptr(),
+                &mut self.floor,
             )
         }
     }
@@ -48,6 +49,7 @@ impl Record {
                 self.marks.as_mut_ptr(),
                 self.barrier.as_mut_ptr(),
                 self.slots.as_mut_ptr(),
+                &mut self.floor,
                 payload.as_ptr(),
                 payload.len(),
                 lifetime,
@@ -69,6 +71,7 @@ impl Record {
                 self.marks.as_mut_ptr(),
                 self.barrier.as_mut_ptr(),
                 self.slots.as_mut_ptr(),
+                &mut self.floor,
                 payload.as_ptr(),
                 payload.len(),
                 output.as_mut_ptr(),
@@ -89,6 +92,7 @@ impl Record {
                 self.marks.as_mut_ptr(),
                 self.barrier.as_mut_ptr(),
                 self.slots.as_mut_ptr(),
+                &mut self.floor,
                 frame.as_ptr(),
                 frame.len(),
                 output.as_mut_ptr(),
@@ -107,6 +111,7 @@ impl Record {
                 self.marks.as_mut_ptr(),
                 self.barrier.as_mut_ptr(),
                 self.slots.as_mut_ptr(),
+                self.floor,
                 frame.as_mut_ptr(),
                 frame.len(),
             )
@@ -130,10 +135,32 @@ impl Record {
                 self.marks.as_mut_ptr(),
                 self.barrier.as_mut_ptr(),
                 self.slots.as_mut_ptr(),
+                &mut self.floor,
                 reading,
                 output.as_mut_ptr(),
                 output.len(),
             )
+        })
+    }
+
+    pub fn set_back(&mut self, reading: u32) -> Answer {
+        let number = unsafe {
+            panel_set_back_parts(
+                self.own,
+                &mut self.time,
+                self.high,
+                self.count,
+                self.marks.as_mut_ptr(),
+                self.barrier.as_mut_ptr(),
+                self.slots.as_mut_ptr(),
+                self.floor,
+                reading,
+            )
+        };
+        answer(PartsAnswer {
+            number,
+            count: 0,
+            length: 0,
         })
     }
 }

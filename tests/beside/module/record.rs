@@ -26,6 +26,8 @@ pub struct Record {
     pub marks: [u32; 64],
     pub barrier: [u32; 64],
     pub slots: [u8; SLOTS],
+    pub floor: u32,
+    behind_floor: [u8; 4],
     margin_behind: [u8; MARGIN],
 }
 
@@ -35,7 +37,12 @@ const _: () = assert!(offset_of!(Record, count) == MARGIN + 16);
 const _: () = assert!(offset_of!(Record, marks) == MARGIN + 24);
 const _: () = assert!(offset_of!(Record, barrier) == MARGIN + 280);
 const _: () = assert!(offset_of!(Record, slots) == MARGIN + 536);
-const _: () = assert!(size_of::<Record>() == 2 * MARGIN + 10_424);
+const _: () = assert!(offset_of!(Record, floor) == MARGIN + 10_424);
+const _: () = assert!(size_of::<Record>() == 2 * MARGIN + 10_432);
+
+/// The floor whose bytes, where a slot behind the last one would be, are those of a length and of a
+/// frame's start. A kept record has the rest of that frame behind it.
+pub const LIKE_A_SLOT: u32 = u32::from_ne_bytes([0, 19, 0x44, 0x52]);
 
 impl Record {
     /// A record of random bytes.
@@ -51,6 +58,8 @@ impl Record {
             marks: [0; 64],
             barrier: [0; 64],
             slots: [0; SLOTS],
+            floor: 0,
+            behind_floor: [0; 4],
             margin_behind: [0; MARGIN],
         });
         random.fill(record.bytes_mut());
@@ -58,14 +67,17 @@ impl Record {
     }
 
     /// A kept record. All bytes that are no part of it are random, but for a readable frame behind
-    /// the last slot: a module that goes on reading there is to be noticed.
+    /// the last slot, of which the floor may be the start: a module that goes on reading there is to
+    /// be noticed.
     pub fn kept(kept: &Kept, random: &mut Random) -> Box<Record> {
         let mut record = Record::random(random);
         let one_more = compose::frame(1, 9, &[], b"");
-        record.margin_behind[..2].copy_from_slice(&[0, one_more.len() as u8]);
-        record.margin_behind[2..2 + one_more.len()].copy_from_slice(&one_more);
+        let (near, far) = one_more[2..].split_at(4);
+        record.behind_floor.copy_from_slice(near);
+        record.margin_behind[..far.len()].copy_from_slice(far);
         (record.own, record.time, record.high) = (kept.own, kept.time, kept.high);
         (record.marks, record.barrier) = (kept.marks, kept.barrier);
+        record.floor = kept.floor;
         record.count = kept.count;
         for (slot, frame) in record.slots.chunks_mut(SLOT).zip(&kept.frames) {
             slot[..2].copy_from_slice(&(frame.len() as u16).to_be_bytes());
@@ -86,11 +98,12 @@ impl Record {
     }
 
     /// The bytes that belong to no field.
-    pub fn outside(&self) -> [&[u8]; 4] {
+    pub fn outside(&self) -> [&[u8]; 5] {
         [
             &self.margin_before,
             &self.between_own_and_time,
             &self.between_high_and_count,
+            &self.behind_floor,
             &self.margin_behind,
         ]
     }
@@ -107,6 +120,8 @@ impl Record {
         let slots = offset_of!(Record, slots);
         let fields = [
             (offset_of!(Record, margin_behind), "the margin behind"),
+            (offset_of!(Record, behind_floor), "behind floor"),
+            (offset_of!(Record, floor), "floor"),
             (slots, "slots"),
             (offset_of!(Record, barrier), "barrier"),
             (offset_of!(Record, marks), "marks"),

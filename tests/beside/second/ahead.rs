@@ -22,7 +22,9 @@ impl Panel {
 
     /// Whether 32 applies to a message: whether its deadline is far ahead, but for planted faults.
     pub fn too_far_ahead(&self, message: &Message, ready: bool) -> bool {
-        let Panel { time, high, .. } = *self;
+        let Panel {
+            time, high, floor, ..
+        } = *self;
         let deadline = message.deadline;
         let far = self.far_ahead(deadline);
         let above = |sum: u64| u64::from(deadline) > sum;
@@ -36,6 +38,9 @@ impl Panel {
                 above(u64::from(time) + 60 * u64::from(FARTHEST_AHEAD))
             }
             Some(Fault::FarAheadOfHigh) => above(u64::from(high) + u64::from(FARTHEST_AHEAD)),
+            Some(Fault::FarAheadOfFloor) => {
+                above(u64::from(time.max(floor)) + u64::from(FARTHEST_AHEAD))
+            }
             Some(Fault::FarthestAheadWraps) => deadline > time.wrapping_add(FARTHEST_AHEAD),
             Some(Fault::LastDeadlineFarAhead) => {
                 deadline >= time.saturating_add(FARTHEST_AHEAD + 1)
@@ -87,7 +92,8 @@ impl Panel {
         }
     }
 
-    /// Whether a message was refused with 32, with the planted fault that never takes it then.
+    /// Whether a message was refused with 32, or dropped, with a planted fault that never takes it
+    /// then.
     pub fn wrongly_had(&self, message: &Message) -> bool {
         self.turned_down
             .contains(&(message.source, message.deadline))
@@ -112,6 +118,7 @@ impl Panel {
             Some(Fault::FarAheadHighLowered) => {
                 self.high = u64::from(self.high).min(farthest) as u32
             }
+            Some(Fault::ClockResetsFloor) => self.floor = 0,
             _ => self.drop_far_ahead(Fault::ClockDropsFarAhead),
         }
     }
@@ -129,6 +136,7 @@ impl Panel {
     pub fn mistaken_deadline(&self, deadline: u64, by_clock: u64) -> u64 {
         match which() {
             Some(Fault::SendStopsFarAhead) => deadline.min(self.farthest()),
+            Some(Fault::SendAboveFloor) => deadline.max(u64::from(self.floor) + 1),
             Some(Fault::FarAheadHighLeftOut) if deadline > self.farthest() => by_clock,
             _ => deadline,
         }

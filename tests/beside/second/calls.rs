@@ -1,8 +1,10 @@
-//! Receive and clock: the source's codes 5 and 11, with document 01's refusals in front.
+//! Receive and clock: the source's codes 5 and 11, with document 01's refusals in front. The call
+//! that sets a clock back is in `floor.rs`.
 
 use super::ahead::misplaced;
 use super::delivery::raise;
 use super::faults::{planted, which, Fault};
+use super::floor::{During, Of};
 use super::log::Log;
 use super::{accepted, first, refused, Answer, Message, Panel, OUTPUT, WAITING};
 
@@ -53,6 +55,7 @@ impl Panel {
             (Some(Fault::RefusedLapsedRemoves), 21)
             | (Some(Fault::RefusedCopyRemoves), 22)
             | (Some(Fault::RefusedForRoomRemoves), 23) => self.remove_carried(message),
+            (Some(Fault::RefusedRaisesFloor), 21) => self.floor = self.floor.max(message.deadline),
             (_, 32) => self.change_by_far_ahead(message),
             _ => {}
         }
@@ -60,9 +63,10 @@ impl Panel {
 
     /// Sets the time.
     pub fn clock(&mut self, reading: u32, output: &mut [u8]) -> Answer {
-        let back = match planted(Fault::SameReadingRefused) {
-            true => reading <= self.time,
-            false => reading < self.time,
+        let back = match which() {
+            Some(Fault::SameReadingRefused) => reading <= self.time,
+            Some(Fault::ClockGoesBack) => false,
+            _ => reading < self.time,
         };
         match first([(26, self.broken()), (10, short(output)), (25, back)]) {
             Some(number) => refused(number),
@@ -82,6 +86,7 @@ impl Panel {
     /// settles.
     fn take(&mut self, message: Message, ready: bool, output: &mut [u8]) -> Answer {
         let mut log = Log::new(output);
+        self.during = During::Receive;
         if planted(Fault::SettledBeforeHanding) {
             self.check_pending_messages(&mut log);
         }
@@ -96,6 +101,9 @@ impl Panel {
             false => {
                 if planted(Fault::WaitingRemoves) {
                     self.remove_carried(&message);
+                }
+                if planted(Fault::WaitingRaisesFloor) {
+                    self.raise_floor(&message);
                 }
                 self.wait(message);
             }
@@ -125,10 +133,7 @@ impl Panel {
 
     /// Why a readable message is turned down because of the state: the checks, in their order.
     pub fn state_checks(&self, message: &Message, ready: bool) -> Checks {
-        let lapsed = match planted(Fault::LapsedAtEqualTime) {
-            true => message.deadline <= self.time,
-            false => message.deadline < self.time,
-        };
+        let lapsed = self.limits().lapsed(Of::Received, message.deadline);
         let full = self.pending.len() + self.lost_places >= WAITING
             || planted(Fault::FullWithPlacesFree)
             || planted(Fault::FullWithThirtyOne) && self.pending.len() + 1 == WAITING;
@@ -147,6 +152,7 @@ impl Panel {
     /// Sets the time, drops the lapsed waiting messages and settles.
     fn set_time(&mut self, reading: u32, output: &mut [u8]) -> Answer {
         self.time = reading;
+        self.during = During::Clock;
         let mut log = Log::new(output);
         if planted(Fault::DroppedAfterSettling) {
             self.forget_expired_messages();
@@ -163,11 +169,8 @@ impl Panel {
 
     /// The source's discard notice: lapsed waiting messages are dropped and never handed.
     fn drop_lapsed(&mut self, log: &mut Log) {
-        let now = self.time;
-        let lapsed = |message: &Message| match planted(Fault::DroppedAtEqualTime) {
-            true => message.deadline <= now,
-            false => message.deadline < now,
-        };
+        let limits = self.limits();
+        let lapsed = |message: &Message| limits.lapsed(Of::Waiting, message.deadline);
         if planted(Fault::LapsedNotDropped) {
             return;
         }
@@ -178,6 +181,10 @@ impl Panel {
             match which() {
                 Some(Fault::DroppedIsHanded) => self.perform_delivery(message, log),
                 Some(Fault::DroppedRemoves) => self.remove_carried(message),
+                Some(Fault::DroppedRaisesFloor) => self.floor = self.floor.max(message.deadline),
+                Some(Fault::DroppedNeverTaken) => {
+                    self.turned_down.push((message.source, message.deadline))
+                }
                 _ => {}
             }
         }

@@ -1,6 +1,7 @@
 //! The test for ready, handing and settling: the source's codes 3, 4, 6, 7, 10, 12 and 13.
 
 use super::faults::{planted, which, Fault};
+use super::floor::{Limits, Of};
 use super::log::Log;
 use super::panel::Pending;
 use super::{Barrier, Message, Panel, Test, PANELS};
@@ -15,11 +16,8 @@ pub fn raise(entries: &mut Barrier, panel: u8, entry: u32) {
 }
 
 /// Code 10: predecessors whose deadline is over are struck off.
-fn expunge_expired_predecessors(left: &mut Barrier, now: u32) {
-    match planted(Fault::EntryMetAtEqualTime) {
-        true => left.retain(|_, entry| *entry > now),
-        false => left.retain(|_, entry| *entry >= now),
-    }
+fn expunge_expired_predecessors(left: &mut Barrier, limits: Limits) {
+    left.retain(|_, entry| !limits.lapsed(Of::Entry, *entry));
 }
 
 /// Code 6: predecessors that were delivered are struck off.
@@ -72,7 +70,7 @@ impl Panel {
     pub fn predecessors_left(&self, message: &Message) -> Barrier {
         let mut left = message.predecessors.clone();
         if !planted(Fault::LapsedEntryWaitedFor) {
-            expunge_expired_predecessors(&mut left, self.time);
+            expunge_expired_predecessors(&mut left, self.limits());
         }
         expunge_delivered_predecessors(&mut left, &self.delivered);
         if planted(Fault::FarAheadEntryMet) {
@@ -85,6 +83,9 @@ impl Panel {
     pub fn perform_delivery(&mut self, message: &Message, log: &mut Log) {
         let (source, deadline) = (message.source, message.deadline);
         let received = source != self.own;
+        if !planted(Fault::MarkAfterHandingAsked) {
+            self.raise_floor(message);
+        }
         self.remove_carried(message);
         match planted(Fault::MarkOverwritten) {
             true => _ = self.delivered.insert(source, deadline),
@@ -97,6 +98,9 @@ impl Panel {
             false => raise(&mut self.barrier, source, deadline),
         }
         self.change_by_handing(message);
+        if planted(Fault::MarkAfterHandingAsked) {
+            self.raise_floor(message);
+        }
         if !(planted(Fault::HighNotRaisedByReceived) && received) {
             self.high = self.high.max(deadline);
         }
@@ -120,12 +124,13 @@ impl Panel {
 
     /// Code 12, but for the marks: these stay.
     pub fn forget_expired_messages(&mut self) {
-        let now = self.time;
+        let limits = self.limits();
         for pending in &mut self.pending {
-            expunge_expired_predecessors(&mut pending.left, now);
+            expunge_expired_predecessors(&mut pending.left, limits);
         }
         if planted(Fault::LapsedMarksForgotten) {
-            self.delivered.retain(|_, mark| *mark >= now);
+            self.delivered
+                .retain(|_, mark| !limits.lapsed(Of::Entry, *mark));
         }
     }
 

@@ -1,30 +1,10 @@
 //! Planted faults: plausible mistakes of a reader of documents 01 and 02, each at one place of the
-//! second implementation. A thread switches one on for itself; without that there is none.
+//! second implementation.
 
-use std::cell::Cell;
+use super::planting::declare;
+pub use super::planting::{exchanged, plant, planted, which};
 
-/// Declares the faults, each with its words.
-macro_rules! faults {
-    ($($name:ident: $words:literal,)*) => {
-        #[derive(Clone, Copy, Debug, PartialEq, Eq)]
-        pub enum Fault {
-            $($name,)*
-        }
-
-        pub const FAULTS: &[Fault] = &[$(Fault::$name,)*];
-
-        impl Fault {
-            /// What the second implementation does wrong.
-            pub fn words(self) -> &'static str {
-                match self {
-                    $(Fault::$name => $words,)*
-                }
-            }
-        }
-    };
-}
-
-faults! {
+declare! {
     // Where the earlier modules went astray.
     OnePassOverTheList: "settling goes over the list once",
     BarrierEmptiedBeforeFrame: "the barrier is emptied before the frame is written",
@@ -185,6 +165,72 @@ faults! {
     SendStopsFarAhead: "the deadline of a send stops at time + 1,209,600",
     FarAheadHighLeftOut: "a send leaves high out where that leads far ahead",
     FarAheadEntriesStripped: "entries far ahead are stripped from the barrier before sending",
+    // Which deadlines have lapsed by the floor.
+    FloorNotAsked: "the floor rises, and decides nothing",
+    FloorNotAskedOfReceived: "21 does not ask the floor",
+    FloorNotAskedOfWaiting: "a clock call does not ask the floor which waiting messages to drop",
+    FloorNotAskedOfEntries: "an entry at most the floor is waited for",
+    FloorItselfAlive: "a deadline equal to the floor is alive",
+    OneAboveFloorLapsed: "a deadline one above the floor has lapsed",
+    FloorPlusOneWraps: "a deadline below floor + 1 has lapsed, in 32 bits",
+    FloorWithASign: "deadline and floor are compared as signed numbers of 32 bits",
+    LapsedByBoth: "lapsed means below the time and at most the floor",
+    // What raises the floor.
+    FloorNeverRises: "the floor stays what it is",
+    ReachedRaisesFloor: "a lapsed entry raises the floor though the mark had reached it",
+    EqualToMarkRaisesFloor: "a lapsed entry equal to the mark raises the floor",
+    AliveRaisesFloor: "an entry that the mark had not reached raises the floor though it is alive",
+    EachEntryRaisesFloor: "each entry raises the floor",
+    BarrierAskedForFloor: "the barrier entry is asked in place of the mark whether it had reached",
+    MarkAfterHandingAsked: "the mark after the handing is asked whether it had reached",
+    SmallestMissed: "of several entries the smallest raises the floor",
+    FirstMissed: "of several entries the first raises the floor",
+    LastMissed: "of several entries the last raises the floor",
+    FloorOverwritten: "the floor becomes a lower entry",
+    FloorRisesToDeadline: "the floor rises to the deadline of the message, for any entry's sake",
+    FloorRisesToTime: "the floor rises to one below the time, for any entry's sake",
+    // When the floor rises, and when not.
+    FloorStaysOnArrival: "a message handed as it is received does not raise the floor",
+    FloorStaysWhileSettling: "a message handed while settling does not raise the floor",
+    FloorStaysInClock: "a message that a clock call hands does not raise the floor",
+    FloorStaysInSend: "a send does not raise the floor",
+    FloorStaysInBeacon: "a beacon does not raise the floor",
+    WaitingRaisesFloor: "a message raises the floor as it is taken, though it has to wait",
+    RefusedRaisesFloor: "a message refused with 21 raises the floor to its deadline",
+    DroppedRaisesFloor: "a message that a clock call drops raises the floor to its deadline",
+    TraceRaisesFloor: "a trace raises the floor, as a receive that hands does",
+    ClockResetsFloor: "a clock call makes the floor 0",
+    SendResetsFloor: "a send makes the floor 0",
+    // Setting a clock back.
+    SetBackRaisesTime: "a set back makes the reading the time, above the time too",
+    SetBackLeavesTime: "a set back leaves the time",
+    SetBackStopsAboveFloor: "a set back stops one above the floor",
+    SetBackRefusesHigher: "a set back to a reading above the time is 25",
+    SetBackRefusesLower: "a set back to a reading below the time is 25, as with the clock call",
+    SetBackForgetsBroken: "a set back never answers 26",
+    SetBackDropsLapsed: "a set back drops waiting messages that have lapsed",
+    SetBackDropsAll: "a set back drops all waiting messages",
+    SetBackSettles: "a set back settles",
+    SetBackResetsFloor: "a set back makes the floor 0",
+    SetBackLowersFloor: "a set back lowers the floor to the reading",
+    SetBackRaisesFloor: "a set back raises the floor to one below the time that it had",
+    SetBackForgetsMarks: "a set back forgets marks above the reading",
+    StruckOffForGood: "an entry that had lapsed before a set back stays met for a waiting message",
+    ClockGoesBack: "a clock call with a reading below the time sets it back, without 25",
+    DroppedNeverTaken: "a message that a clock call dropped is 22 after a set back",
+    // The floor elsewhere.
+    FreshFloorOne: "a fresh panel has floor 1",
+    FloorAboveTimeIsBroken: "26 for a floor above the time",
+    FloorAboveHighIsBroken: "26 for a floor above high",
+    FarAheadOfFloor: "32 for a deadline above the larger of time and floor + 1,209,600",
+    SendAboveFloor: "the deadline of a send is above the floor",
+    LapsedSendNotHanded: "an own message that has lapsed by the floor is not handed",
+    FloorEntriesStripped: "entries at most the floor are stripped from the barrier before sending",
+    TraceFloorNotAsked: "a trace answers 21 by the time alone",
+    TraceFloorNotAskedOfEntries: "in a trace an entry at most the floor is not met",
+    OldMakeAsksNoFloor: "an old panel does not ask the floor",
+    OldMakeFloorStays: "an old panel does not raise the floor",
+    OldMakeNotSetBack: "an old panel is not set back",
     // The visits of a trace.
     EmptyBitsVisited: "a trace visits empty bits too, all 64 for a ready message",
     EmptyBitsBetweenVisited: "a trace visits the empty bits between two entries",
@@ -303,43 +349,4 @@ faults! {
     UpperCaseHexadecimal: "list prints upper-case hexadecimal",
     EmptyPayloadAsBlank: "list prints nothing for an empty payload",
     LongOneByteEarly: "list says long of 65,535 bytes",
-}
-
-thread_local! {
-    static PLANTED: Cell<Option<Fault>> = const { Cell::new(None) };
-}
-
-/// Switches this fault on for the thread, and any other off.
-pub fn plant(fault: Option<Fault>) {
-    PLANTED.set(fault);
-}
-
-/// The fault that is switched on.
-pub fn which() -> Option<Fault> {
-    PLANTED.get()
-}
-
-/// Whether this fault is switched on.
-pub fn planted(fault: Fault) -> bool {
-    which() == Some(fault)
-}
-
-/// The two numbers that a planted fault has exchanged in the order of the checks.
-pub fn exchanged() -> Option<(u8, u8)> {
-    match which()? {
-        Fault::ShortBeforeBroken => Some((26, 10)),
-        Fault::LongPayloadBeforeShort => Some((10, 9)),
-        Fault::TooHighBeforeLongPayload => Some((9, 24)),
-        Fault::LapsedBeforeOwnSource => Some((20, 21)),
-        Fault::HadBeforeLapsed => Some((21, 22)),
-        Fault::FullBeforeHad => Some((22, 23)),
-        Fault::ClockBackBeforeShort => Some((10, 25)),
-        Fault::VersionBeforeMark => Some((2, 3)),
-        Fault::SourceBeforeVersion => Some((3, 4)),
-        Fault::DeadlineBeforeSource => Some((4, 5)),
-        Fault::EntriesShortBeforeDeadline => Some((5, 1)),
-        Fault::PayloadLengthBeforeEntries => Some((6, 7)),
-        Fault::PayloadShortBeforeLength => Some((7, 1)),
-        _ => None,
-    }
 }

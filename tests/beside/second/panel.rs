@@ -3,6 +3,7 @@
 
 use super::delivery::visit;
 use super::faults::{planted, Fault};
+use super::floor::During;
 use super::{Barrier, Make, Message, PANELS, WAITING};
 use crate::kept::Kept;
 use std::borrow::Cow;
@@ -30,6 +31,8 @@ pub struct Panel {
     pub own: u8,
     pub time: u32,
     pub high: u32,
+    /// Document 02, W-207: "The record gains a floor, 0 at first."
+    pub floor: u32,
     /// The marks; a source without any has no entry.
     pub delivered: Barrier,
     pub barrier: Barrier,
@@ -43,8 +46,9 @@ pub struct Panel {
     pub lost_places: usize,
     /// Messages that are never taken: none, but for a planted fault.
     pub turned_down: Vec<(u8, u32)>,
-    /// The panel settles just now: planted faults ask for it.
+    /// The panel settles just now, and in this call: planted faults ask for it.
     pub settling: bool,
+    pub during: During,
     /// The entries of the message that is received just now: a planted fault asks for them.
     pub received: Option<Barrier>,
     /// What planted faults write into the next frame of entries that were removed.
@@ -58,6 +62,7 @@ pub fn fresh(number: u8, make: Make) -> (Panel, u8) {
         own: number,
         time: 0,
         high: 0,
+        floor: u32::from(planted(Fault::FreshFloorOne)),
         delivered: Barrier::new(),
         barrier: Barrier::new(),
         pending: Vec::new(),
@@ -66,6 +71,7 @@ pub fn fresh(number: u8, make: Make) -> (Panel, u8) {
         lost_places: 0,
         turned_down: Vec::new(),
         settling: false,
+        during: During::Receive,
         received: None,
         left_over: Barrier::new(),
     };
@@ -104,6 +110,7 @@ impl Panel {
             own: kept.own,
             time: kept.time,
             high: kept.high,
+            floor: kept.floor,
             delivered: entries(&kept.marks),
             barrier: entries(&kept.barrier),
             excess: kept.count.saturating_sub(WAITING),
@@ -146,6 +153,7 @@ impl Panel {
             || excess > 0
             || self.unreadable > 0 && !planted(Fault::UnreadableLetThrough)
             || self.wrongly_broken()
+            || self.broken_by_floor()
     }
 
     /// The 64 marks.

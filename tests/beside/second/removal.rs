@@ -78,7 +78,7 @@ impl Panel {
                 up_to(place.and_then(|place| entries.values().nth(place).copied()))
             }
             Fault::PlaceTakenForPanel => up_to(entries.values().nth(usize::from(panel)).copied()),
-            Fault::LapsedEntriesRemoved if entry < self.time => Some(true),
+            Fault::LapsedEntriesRemoved if self.lapsed(entry) => Some(true),
             Fault::RemovedByTheReceived if self.settling => {
                 let received = self.received.as_ref();
                 received.map(|received| at_most_carried(received, panel, entry))
@@ -101,8 +101,8 @@ impl Panel {
             Some(Fault::EntryOfPanelZeroStays) => panel == 0,
             Some(Fault::EntryOfLastPanelStays) => panel == PANELS - 1,
             Some(Fault::EntryOfOwnPanelStays) => panel == self.own,
-            Some(Fault::LapsedEntryStays) => entry < self.time,
-            Some(Fault::LapsedCarriedRemovesNothing) => carried < self.time,
+            Some(Fault::LapsedEntryStays) => self.lapsed(entry),
+            Some(Fault::LapsedCarriedRemovesNothing) => self.lapsed(carried),
             Some(Fault::MissingCarriedRemovesNothing) => {
                 self.delivered.get(&panel).copied().unwrap_or(0) < carried
             }
@@ -116,7 +116,7 @@ impl Panel {
         match which()? {
             Fault::NewRuleAtOldPanel => Some(at_most_carried(carried, panel, entry)),
             Fault::OldMakeEmptiesAsItReceives => Some(message.source != self.own),
-            Fault::OldMakeDropsTheLapsed => Some(entry < self.time),
+            Fault::OldMakeDropsTheLapsed => Some(self.lapsed(entry)),
             _ => None,
         }
     }

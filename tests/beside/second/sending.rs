@@ -2,6 +2,7 @@
 
 use super::calls::short;
 use super::faults::{planted, Fault};
+use super::floor::During;
 use super::log::Log;
 use super::{accepted, first, refused, Answer, Message, Panel};
 use super::{BEACON_LIFETIME, DEFAULT_LIFETIME, FRAME, LOG_RECORD, PAYLOAD};
@@ -138,7 +139,10 @@ impl Panel {
         let mut predecessors = std::mem::take(&mut self.left_over);
         predecessors.extend(&self.barrier);
         if planted(Fault::LapsedEntriesStripped) {
-            predecessors.retain(|_, entry| *entry >= self.time);
+            predecessors.retain(|_, entry| !self.lapsed(*entry));
+        }
+        if planted(Fault::FloorEntriesStripped) {
+            predecessors.retain(|_, entry| *entry > self.floor);
         }
         if planted(Fault::FarAheadEntriesStripped) {
             predecessors.retain(|_, entry| !self.far_ahead(*entry));
@@ -176,6 +180,10 @@ impl Panel {
             self.barrier.clear();
         }
         let mut log = Log::new(output);
+        self.during = match note.beacon {
+            true => During::Beacon,
+            false => During::Send,
+        };
         if planted(Fault::OwnMessageLast) {
             self.check_pending_messages(&mut log);
         }
@@ -192,8 +200,12 @@ impl Panel {
         let high = self.high;
         match note.wrong(Fault::BeaconNotLogged) {
             _ if note.wrong(Fault::BeaconNotHanded) => {}
+            _ if planted(Fault::LapsedSendNotHanded) && self.lapsed(message.deadline) => {}
             true => self.perform_delivery(message, &mut Log::new(&mut [])),
             false => self.perform_delivery(message, log),
+        }
+        if planted(Fault::SendResetsFloor) {
+            self.floor = 0;
         }
         if note.wrong(Fault::BeaconLeavesHigh) {
             self.high = high;

@@ -4,6 +4,7 @@
 use super::calls::Checks;
 use super::delivery::raise;
 use super::faults::{planted, which, Fault};
+use super::floor::Of;
 use super::log::Log;
 use super::{first, refused, Answer, Message, Panel, Test, OUTPUT, PANELS, WAITING};
 
@@ -55,7 +56,8 @@ impl Panel {
             Some(Fault::TraceFullBeforeHad) => checks.swap(3, 4),
             Some(Fault::TraceForgetsOwnSource) => checks[0].1 = false,
             Some(Fault::TraceForgetsLapsed) => checks[1].1 = false,
-            Some(Fault::TraceLapsedAtEqualTime) => checks[1].1 = message.deadline <= self.time,
+            Some(Fault::TraceLapsedAtEqualTime) => checks[1].1 |= message.deadline == self.time,
+            Some(Fault::TraceFloorNotAsked) => checks[1].1 = message.deadline < self.time,
             Some(Fault::TraceForgetsFarAhead) => checks[2].1 = false,
             Some(Fault::TraceFarthestAheadRefused) => {
                 checks[2].1 = self.far_ahead(message.deadline.saturating_add(1))
@@ -95,7 +97,8 @@ impl Panel {
         let mut other = self.clone();
         match fault {
             Fault::TraceByTheBarrier => other.delivered.clone_from(&self.barrier),
-            Fault::TraceByTheMarksAlone => other.time = 0,
+            Fault::TraceByTheMarksAlone => (other.time, other.floor) = (0, 0),
+            Fault::TraceFloorNotAskedOfEntries => other.floor = 0,
             Fault::TraceByTheTimeAlone => other.delivered.clear(),
             Fault::TraceEntryMetAtEqualTime => other.time = self.time.saturating_add(1),
             Fault::TraceEntryAtItsMarkNotMet => {
@@ -128,7 +131,7 @@ impl Panel {
                 last.map_or(entries.len(), |place| place + 1)
             }
             Some(Fault::LapsedEntryNotVisited) => {
-                visited().filter(|(_, entry)| **entry >= self.time).count()
+                visited().filter(|(_, entry)| !self.lapsed(**entry)).count()
             }
             Some(Fault::OnlyLeftVisited) => self.predecessors_left(message).len(),
             Some(Fault::FirstWaitingVisited) => {
@@ -154,10 +157,11 @@ impl Panel {
                 raise(&mut self.delivered, message.source, message.deadline)
             }
             (Some(Fault::TraceRemoves), Ok(message)) => self.remove_carried(message),
+            (Some(Fault::TraceRaisesFloor), Ok(message)) => self.raise_floor(message),
             (Some(Fault::TraceDropsTheLapsed), _) => {
-                let now = self.time;
+                let limits = self.limits();
                 self.pending
-                    .retain(|pending| pending.message.deadline >= now);
+                    .retain(|pending| !limits.lapsed(Of::Waiting, pending.message.deadline));
             }
             _ => {}
         }

@@ -89,6 +89,7 @@ test_c() {
     must_warn "$1" CASE_LEFT_OUT PANEL_REFUSED_LIST_FULL
     must_warn "$1" ANSWER_NOT_LOOKED_AT unused
     must_warn "$1" TRACE_NOT_LOOKED_AT unused
+    must_warn "$1" SET_BACK_NOT_LOOKED_AT unused
     must_warn "$1" NULL_POINTER nonnull
 }
 

@@ -180,8 +180,29 @@ exampleOpened = tt
 
 pub example-follows : Follows example
 unfolding exampleOpened
-example-follows = (refl, answered .1, (refl, (refl, (refl, received .1, (refl, beaconed .1, (refl, sent .1,
-    (refl, setBackAgain .1, (refl, setBackTo100 .1, (refl, clocked .1, tt)))))))))
+example-follows = (
+  refl,
+  answered .1,
+  (
+    refl,
+    (
+      refl,
+      (
+        refl,
+        received .1,
+        (
+          refl,
+          beaconed .1,
+          (
+            refl,
+            sent .1,
+            (refl, setBackAgain .1, (refl, setBackTo100 .1, (refl, clocked .1, tt))),
+          ),
+        ),
+      ),
+    ),
+  ),
+)
 
 pub example-lawful : Lawful (farm example)
 unfolding exampleOpened

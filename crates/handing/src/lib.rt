@@ -78,35 +78,26 @@ fn put_in_log(
     larger(high, deadline)
 }
 
-// The record's high and floor, once a message was handed.
-pub struct Handed {
-    pub high: u32,
-    pub floor: u32,
-}
-
-// Hands the message of a readable frame: its entries are passed, beside the marks and the barrier as
-// they are, and then it is put into the log.
+// Hands the message of a readable frame, and answers the record's new high: its entries are passed,
+// beside the marks and the barrier as they are, and then it is put into the log.
 pub fn hand(
     time: u32,
     high: u32,
-    floor: u32,
     handed: usize,
+    floor: &mut u32,
     marks: &mut [u32; 64],
     barrier: &mut [u32; 64],
     frame: &[u8],
     output: &mut [u8],
-) -> Handed
+) -> u32
     requires { ⌜ Reads (now frame) × (handed * 38 + 38 ≤ length (now output)) ⌝ }
-    ensures { λ r. ⌜ (r .high ≡ max high (messageIn 4 (now (frame .entry)) .deadline))
+    ensures { λ r. ⌜ (r ≡ max high (messageIn 4 (now (frame .entry)) .deadline))
         × (now (marks .exit) ≡ raise (now (marks .entry)) (messageIn 4 (now (frame .entry))))
         × (now (barrier .exit) ≡ raise (shortened (now (barrier .entry)) (messageIn 4 (now (frame .entry)) .entries)) (messageIn 4 (now (frame .entry))))
         × (now (output .exit) ≡ over (now (output .entry)) (handed * 38) (logRecord (messageIn 4 (now (frame .entry)))))
-        × (r .floor ≡ max floor (missed time floor (λ panel. getD (now (marks .entry)) panel 0) (messageIn 4 (now (frame .entry)) .entries))) ⌝ }
+        × (now (floor .exit) ≡ max (now (floor .entry))
+        (missed time (now (floor .entry)) (λ panel. getD (now (marks .entry)) panel 0) (messageIn 4 (now (frame .entry)) .entries))) ⌝ }
 {
-    let risen = pass_entries(time, floor, marks, barrier, frame);
-    let raised = put_in_log(high, handed, marks, barrier, frame, output);
-    Handed {
-        high: raised,
-        floor: risen,
-    }
+    pass_entries(time, floor, marks, barrier, frame);
+    put_in_log(high, handed, marks, barrier, frame, output)
 }

@@ -4,17 +4,12 @@
 // what it must print. (tests/ runs all bench cases, in place.)
 use by_value::Sent;
 use panel::Panel;
-use tracing::Trace;
-
-fn print(text: &[u8]) {
-    io::write_all(1, text);
-}
-
-// A label, and a number in decimal.
-fn print_item(label: &[u8], number: u64) {
-    io::write_all(1, label);
-    io::print_decimal(1, number);
-}
+use telling::at;
+use telling::clock;
+use telling::fresh;
+use telling::print;
+use telling::print_answer;
+use telling::receive;
 
 fn wide(byte: u8) -> u64 {
     byte as u64
@@ -27,71 +22,12 @@ fn print_bytes(bytes: &[u8]) {
     }
 }
 
-// The panel, the number of the answer, and the counts of log records and of waiting messages.
-fn print_answer(label: &[u8], own: u8, number: u8, count: usize, waiting: usize) {
-    print_item(label, own as u64);
-    print_item(b": ", number as u64);
-    print_item(b", handed ", count as u64);
-    print_item(b", waiting ", waiting as u64);
-}
-
 // The first bytes of a buffer, or none where there are fewer.
 fn first(buffer: &[u8], length: usize) -> &[u8] {
     if buffer.len() < length {
         return &buffer[0..0];
     }
     &buffer[0..length]
-}
-
-fn fresh(own: u8) -> Panel {
-    let answer = panel::panel_fresh(own);
-    let p = answer.panel;
-    print_answer(b"fresh panel ", p.own, answer.number, 0, p.count);
-    print(b"\n");
-    p
-}
-
-// What a trace shows of a frame.
-fn print_trace(shown: Trace) {
-    print_item(b"trace: ", shown.number as u64);
-    if shown.ready {
-        print(b", ready");
-    }
-    print_item(b", visited ", shown.visited as u64);
-    print(b"\n");
-}
-
-// A trace of a frame, and then its receive.
-fn receive(p: Panel, frame: &[u8]) -> Panel {
-    print_trace(panel::panel_trace(p, frame));
-    let mut output = [0u8; 1254];
-    let answer = by_value::panel_receive(p, frame, &mut output);
-    let panel = answer.panel;
-    print_answer(
-        b"receive at panel ",
-        panel.own,
-        answer.number,
-        answer.count,
-        panel.count,
-    );
-    print(b"\n");
-    panel
-}
-
-fn clock(p: Panel, time: u32) -> Panel {
-    let mut output = [0u8; 1254];
-    let answer = by_value::panel_clock(p, time, &mut output);
-    let panel = answer.panel;
-    print_answer(
-        b"clock at panel ",
-        panel.own,
-        answer.number,
-        answer.count,
-        panel.count,
-    );
-    print_item(b", time ", panel.time as u64);
-    print(b"\n");
-    panel
 }
 
 // What a send or a beacon has answered; then a fresh panel 0 receives the frame.
@@ -118,11 +54,6 @@ fn beacon(p: Panel, payload: &[u8]) -> Panel {
     let mut buffer = [0u8; 307];
     let answer = by_value::panel_beacon(p, payload, &mut output, &mut buffer);
     pass_on(b"beacon at panel ", answer, &buffer)
-}
-
-// A fresh panel whose clock shows a time.
-fn at(own: u8, time: u32) -> Panel {
-    clock(fresh(own), time)
 }
 
 // Panel 2 hears A and B of the busy yard, and sends C.

@@ -31,7 +31,7 @@ module _ (bs before marks : List ℕ) (time floor : ℕ) where
   -- a turn, to the next panel whose bit is set
   pub passed-on : {barrier : List ℕ} {bits passed risen : ℕ} → PassedBelow barrier bits passed risen → (bits ≡ 0 → ⊥) → (value next-risen : ℕ)
       → value ≡ remains (getD barrier (next bits) 0) (numberAt bs (18 + 4 * passed) 4)
-      → next-risen ≡ max risen (missedEntry time risen (getD marks (next bits) 0) (numberAt bs (18 + 4 * passed) 4))
+      → next-risen ≡ max risen (missedEntry time 0 (getD marks (next bits) 0) (numberAt bs (18 + 4 * passed) 4))
       → PassedBelow (set barrier (next bits) value) (bitAnd bits (bits - 1)) (passed + 1) next-risen
   passed-on p some value next-risen left rises =
       record {

@@ -25,38 +25,29 @@ missed-none time floor mark = go (hasLapsed time floor 0 && ltb mark 0)
     go true = refl
     go false = refl
 
--- ---- one entry
+-- ---- one entry, by the time alone
 
-module _ (floor time mark entry : ℕ) where
+module _ (time mark entry : ℕ) where
   -- the mark has reached it
-  pub raised-reached : entry ≤ mark → floor ≡ max floor (missedEntry time floor mark entry)
-  raised-reached le = rw (le-ltb mark entry le) (go (hasLapsed time floor entry))
+  pub entry-reached : entry ≤ mark → 0 ≡ missedEntry time 0 mark entry
+  entry-reached le = rw (le-ltb mark entry le) (go (hasLapsed time 0 entry))
     where
-      go : (late : Bool) → floor ≡ max floor (cond (late && false) entry 0)
-      go true = omega arith
-      go false = omega arith
-
-  -- the floor has
-  pub raised-below : entry ≤ floor → floor ≡ max floor (missedEntry time floor mark entry)
-  raised-below le = go (hasLapsed time floor entry && ltb mark entry)
-    where
-      go : (b : Bool) → floor ≡ max floor (cond b entry 0)
-      go true = omega arith
-      go false = omega arith
+      go : (late : Bool) → 0 ≡ cond {A = ℕ} (late && false) entry 0
+      go true = refl
+      go false = refl
 
   -- it has not lapsed
-  pub raised-alive : floor < entry → time ≤ entry → floor ≡ max floor (missedEntry time floor mark entry)
-  raised-alive above due = go (hasLapsed time floor entry) refl (ltb mark entry)
+  pub entry-alive : mark < entry → time ≤ entry → 0 ≡ missedEntry time 0 mark entry
+  entry-alive above due = go (hasLapsed time 0 entry) refl (ltb mark entry)
     where
-      go : (late : Bool) → hasLapsed time floor entry ≡ late → (b : Bool) → floor ≡ max floor (cond (late && b) entry 0)
-      go true e b = absurd (omega (arith, hasLapsed-true time floor entry e))
-      go false e b = omega arith
+      go : (late : Bool) → hasLapsed time 0 entry ≡ late → (b : Bool) → 0 ≡ cond {A = ℕ} (late && b) entry 0
+      go true e b = absurd (omega (arith, hasLapsed-true time 0 entry e))
+      go false e b = refl
 
   -- it was missed
-  pub raised-to : mark < entry → floor < entry → entry < time → entry ≡ max floor (missedEntry time floor mark entry)
+  pub entry-missed : mark < entry → entry < time → entry ≡ missedEntry time 0 mark entry
   unfolding hasLapsed
-  raised-to unreached above late =
-      rw (lt-ltb mark entry unreached, lt-ltb entry time late) (omega arith)
+  entry-missed unreached late = rw (lt-ltb mark entry unreached, lt-ltb entry time late)
 
 -- ---- one after another
 
@@ -108,14 +99,15 @@ module _ (bs marks : List ℕ) (time floor : ℕ) where
 
   -- a turn: the entry of the next panel whose bit is set
   pub risen-on : {bits passed risen : ℕ} (w : Walk bs bits passed) (some : bits ≡ 0 → ⊥) (next-risen : ℕ) → risen ≡ risenBelow (w .panel)
-      → next-risen ≡ max risen (missedEntry time risen (getD marks (next bits) 0) (numberAt bs (18 + 4 * passed) 4)) → next-risen ≡ risenBelow (next bits + 1)
+      → next-risen ≡ max risen (missedEntry time 0 (getD marks (next bits) 0) (numberAt bs (18 + 4 * passed) 4)) → next-risen ≡ risenBelow (next bits + 1)
   unfolding largest
   risen-on {bits} {passed} {risen} w some next-risen e is =
       let panel = w .panel in
       let reached : next bits ≡ panel + (next bits - panel) = omega (arith, turn-above w some) in
       let skip : largest (next bits) missedAt ≡ largest panel missedAt =
       ap (λ (n : ℕ). largest n missedAt) reached ∙ largest-skip panel (next bits - panel) (λ k above lt. turn-skips w some k above (omega (arith, reached))) in
-      let here : max risen (missedEntry time risen (getD marks (next bits) 0) (numberAt bs (18 + 4 * passed) 4)) ≡ max risen (missedAt (next bits)) =
-      missed-risen time floor risen (getD marks (next bits) 0) (numberAt bs (18 + 4 * passed) 4) (omega (arith, e))
+      let here : max risen (missedEntry time 0 (getD marks (next bits) 0) (numberAt bs (18 + 4 * passed) 4)) ≡ max risen (missedAt (next bits)) =
+      sym (missed-risen time 0 risen (getD marks (next bits) 0) (numberAt bs (18 + 4 * passed) 4) (omega arith))
+      ∙ missed-risen time floor risen (getD marks (next bits) 0) (numberAt bs (18 + 4 * passed) 4) (omega (arith, e))
       ∙ ap (λ (entry : ℕ). max risen (missedEntry time floor (getD marks (next bits) 0) entry)) (sym (turn-entry w some)) in
       is ∙ here ∙ rw add-one (omega (arith, e, skip))

@@ -20,47 +20,44 @@ fn remaining(entry: u32, carried: u32) -> u32
     entry
 }
 
-// The floor, where a message carries an entry for a panel of that mark: it rises to the entry, if that
-// has lapsed and the mark has not reached it. (An entry that has lapsed by the floor raises nothing.)
-fn raised(floor: u32, time: u32, mark: u32, entry: u32) -> u32
-    ensures { λ r. ⌜ r ≡ max floor (missedEntry time floor mark entry) ⌝ }
+// Raises the floor to an entry that has lapsed and that the mark of its panel has not reached. (One that
+// has lapsed by the floor alone raises nothing. Mostly the mark has reached it, and that is all that is
+// looked at.)
+fn raise_floor(floor: &mut u32, time: u32, mark: u32, entry: u32)
+    ensures { λ _. ⌜ now (floor .exit) ≡ max (now (floor .entry)) (missedEntry time 0 mark entry) ⌝ }
 {
-    if entry <= mark {
-        return floor;
+    if mark < entry {
+        if entry < time {
+            if *floor < entry {
+                *floor = entry;
+            }
+        }
     }
-    if entry <= floor {
-        return floor;
-    }
-    if time <= entry {
-        return floor;
-    }
-    entry
 }
 
 // Goes through the entries that the message of a readable frame carries, from set bit to set bit of its
-// mask: removes each barrier entry that is at most the entry for the same panel, and answers the floor,
-// risen to the largest entry that was missed.
+// mask: removes each barrier entry that is at most the entry for the same panel, and raises the floor to
+// the largest entry that was missed.
 pub fn pass_entries(
     time: u32,
-    floor: u32,
+    floor: &mut u32,
     marks: &[u32; 64],
     barrier: &mut [u32; 64],
     frame: &[u8],
-) -> u32
+)
     requires { ⌜ Reads (now frame) ⌝ }
-    ensures { λ r. ⌜ (now (barrier .exit) ≡ shortened (now (barrier .entry)) (messageIn 4 (now (frame .entry)) .entries))
-        × (r ≡ max floor (missed time floor (λ panel. getD (now (marks .entry)) panel 0) (messageIn 4 (now (frame .entry)) .entries))) ⌝ }
+    ensures { λ _. ⌜ (now (barrier .exit) ≡ shortened (now (barrier .entry)) (messageIn 4 (now (frame .entry)) .entries))
+        × (now (floor .exit) ≡ max (now (floor .entry))
+        (missed time (now (floor .entry)) (λ panel. getD (now (marks .entry)) panel 0) (messageIn 4 (now (frame .entry)) .entries))) ⌝ }
 {
     let mut bits = number_at(frame, 10, 8);
     let mut passed = 0;
-    let mut risen = floor;
     while bits != 0 {
         let panel = u64::trailing_zeros(bits) as usize;
         let carried = number_at(frame, 18 + 4 * passed, 4) as u32;
         barrier[panel] = remaining(barrier[panel], carried);
-        risen = raised(risen, time, marks[panel], carried);
+        raise_floor(floor, time, marks[panel], carried);
         bits = bits & (bits - 1);
         passed += 1;
     }
-    risen
 }

@@ -44,25 +44,21 @@ fn take(
 {
     let tested = ready(frame, marks, s.time, s.floor);
     if tested.ready {
-        let raised = hand(
+        let mut rest = s;
+        let mut floor = s.floor;
+        rest.high = hand(
             s.time,
             s.high,
-            s.floor,
             s.handed,
+            &mut floor,
             marks,
             barrier,
             frame,
             output,
         );
-        let count = s.handed + 1;
-        return Settling {
-            own: s.own,
-            time: s.time,
-            high: raised.high,
-            waiting: s.waiting,
-            handed: count,
-            floor: raised.floor,
-        };
+        rest.floor = floor;
+        rest.handed += 1;
+        return rest;
     }
     put_frame(slots, s.waiting, frame);
     let mut rest = s;

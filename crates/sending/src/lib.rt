@@ -71,9 +71,7 @@ pub fn send_in_place(
     let length = write(own, deadline as u32, barrier, payload, buffer);
     *barrier = [0u32; 64];
     let frame = &buffer[0..length];
-    let raised = hand(time, *high, *floor, 0, marks, barrier, frame, output);
-    *high = raised.high;
-    *floor = raised.floor;
+    *high = hand(time, *high, 0, floor, marks, barrier, frame, output);
     let places = in_order();
     let mut handed = 1;
     *count = settle_slots(

@@ -64,18 +64,16 @@ pub fn settle(
         return waiting;
     }
     let slot = leave(places, waiting, next.place) as usize;
-    let raised = hand(
+    *high = hand(
         time,
         *high,
-        *floor,
         *handed,
+        floor,
         marks,
         barrier,
         kept_frame(slots, slot),
         output,
     );
-    *high = raised.high;
-    *floor = raised.floor;
     *handed += 1;
     settle(
         own,

@@ -22,7 +22,7 @@ returns : tie.Need-returns
 returns c =
     let put = c .before .before in
     let pass = put .before .before .before .before in
-    let m = messageIn 4 (now (pass .before .before .before .before .before .args .frame)) in
+    let m = messageIn 4 (now (pass .before .before .before .before .before .before .args .frame)) in
     let (high, marks, barrier, output) = put .put-in-log .ensures in
     let (short, floor) = pass .pass-entries .ensures in
     (high, marks, barrier ∙ ap (λ (b : List ℕ). raise b m) short, output, floor)

@@ -15,11 +15,10 @@ use Rattle.passing.proofs.pass_entries.Statement.{statement}
 use Rattle.passing.proofs.pass_entries.Tie as tie
 
 abbrev Inv-loop : tie.InvT-loop
-Inv-loop time floor marks barrier₀ frame bits₀ passed₀ risen₀ barrier bits passed risen =
-    PassedBelow frame barrier₀ marks time floor barrier bits passed risen
+Inv-loop time floor₀ marks barrier₀ frame bits₀ passed₀ floor barrier bits passed = PassedBelow frame barrier₀ marks time floor₀ barrier bits passed floor
 
 abbrev μ-loop : tie.MeasureT-loop
-μ-loop time floor marks barrier₀ frame bits₀ passed₀ risen₀ barrier bits passed risen = bits
+μ-loop time floor₀ marks barrier₀ frame bits₀ passed₀ floor barrier bits passed = bits
 
 number-at-requires : tie.Need-number-at-requires Inv-loop μ-loop
 number-at-requires c κs = omega (arith, zero-passed 4 _ (c .before .pre) .long)
@@ -29,9 +28,9 @@ loop-holds c =
     let a = c .before .before .args in
     let mask = c .number-at .ensures .0 in
     subst
-    (λ (bits : ℕ). PassedBelow (now (a .frame)) (now (a .barrier)) (now (a .marks)) (a .time) (a .floor) (now (a .barrier)) bits 0 (a .floor))
+    (λ (bits : ℕ). PassedBelow (now (a .frame)) (now (a .barrier)) (now (a .marks)) (a .time) (now (a .floor)) (now (a .barrier)) bits 0 (now (a .floor)))
     (sym mask)
-    (passed-start (now (a .frame)) (now (a .barrier)) (now (a .marks)) (a .time) (a .floor)
+    (passed-start (now (a .frame)) (now (a .barrier)) (now (a .marks)) (a .time) (now (a .floor))
     (subst (λ (bits : ℕ). bits < 2 ^ 64) mask (c .number-at .ensures .1)))
 
 -- in a turn the panel is one of 64, and its entry stands within the frame
@@ -71,18 +70,18 @@ mul-barrier c = omega (arith, below (c .before .before .before))
 element-write-barrier : tie.Need-element-write-barrier Inv-loop μ-loop
 element-write-barrier c = below (c .before .before .before)
 
-mul-raised : tie.Need-mul-raised Inv-loop μ-loop
-mul-raised c = omega (arith, below (c .before .before .before))
+mul-raise-floor : tie.Need-mul-raise-floor Inv-loop μ-loop
+mul-raise-floor c = omega (arith, below (c .before .before .before .before))
 
-element-copy-out-raised : tie.Need-element-copy-out-raised Inv-loop μ-loop
-element-copy-out-raised c = below (c .before .before .before)
+element-copy-out-raise-floor : tie.Need-element-copy-out-raise-floor Inv-loop μ-loop
+element-copy-out-raise-floor c = below (c .before .before .before .before)
 
-raised-requires : tie.Need-raised-requires Inv-loop μ-loop
-raised-requires c κs = tt
+raise-floor-requires : tie.Need-raise-floor-requires Inv-loop μ-loop
+raise-floor-requires c κs = tt
 
 -- looking back, from behind the last call of a turn to its start
-abbrev turn : tie.After-raised Inv-loop μ-loop → tie.In-loop Inv-loop μ-loop
-turn c = c .before .before .before .before .before
+abbrev turn : tie.After-raise-floor Inv-loop μ-loop → tie.In-loop Inv-loop μ-loop
+turn c = c .before .before .before .before .before .before
 
 sub-bits : tie.Need-sub-bits Inv-loop μ-loop
 sub-bits c = omega (arith, turn c .loop-test .taken)
@@ -100,11 +99,12 @@ loop-again c =
     let t = turn c in
     let l = t .before .loop in
     let a = t .before .before .before .before .args in
-    let left = c .before .before in
+    let left = c .before .before .before in
     let entry = left .before .before .number-at2 .ensures .0 in
-    passed-on _ _ _ _ _ (l .inv) (t .loop-test .taken) (left .remaining .result) (c .raised .result)
+    let mark = getD (now (a .marks)) (next (l .bits)) 0 in
+    passed-on _ _ _ _ _ (l .inv) (t .loop-test .taken) (left .remaining .result) (c .raise-floor .last .0)
     (left .remaining .ensures ∙ ap (remains (getD (l .barrier) (next (l .bits)) 0)) entry)
-    (c .raised .ensures ∙ ap (λ (e : ℕ). max (l .risen) (missedEntry (a .time) (l .risen) (getD (now (a .marks)) (next (l .bits)) 0) e)) entry)
+    (c .raise-floor .ensures ∙ ap (λ (e : ℕ). max (l .floor) (missedEntry (a .time) 0 mark e)) entry)
 
 returns : tie.Need-returns Inv-loop μ-loop
 returns c = passed-end _ _ _ _ _ (c .before .loop .inv) (c .loop-test .left)
@@ -127,9 +127,9 @@ pass-entries-spec =
     remaining-requires
     mul-barrier
     element-write-barrier
-    mul-raised
-    element-copy-out-raised
-    raised-requires
+    mul-raise-floor
+    element-copy-out-raise-floor
+    raise-floor-requires
     sub-bits
     add-passed
     loop-less

@@ -26,8 +26,8 @@ ready-requires c κs = search needs
 hand-requires : tie.Need-hand-requires
 hand-requires c κs = search needs
 
-add-count : tie.Need-add-count
-add-count c = search (needs, start (c .before .before .before .before .before .before .before .before) .pre .1 .1, start (c .before .before .before .before .before .before .before .before) .good)
+add-rest : tie.Need-add-rest
+add-rest c = search (needs, start (c .before .before .before .before .before .before .before .before .before) .pre .1 .1, start (c .before .before .before .before .before .before .before .before .before) .good)
 
 same-length : tie.Need-same-length
 same-length c = search needs
@@ -35,17 +35,17 @@ same-length c = search needs
 returns : tie.Need-returns
 returns c =
     let hand = c .before .before .before .hand in
-    let test = c .before .before .before .before .before .before .before in
+    let test = c .before .before .before .before .before .before .before .before in
     let s = start (test .before) in
     taken-handed _ _ _ _ _ _ (s .pre .0 .0) (s .pre .0 .1) (s .pre .0 .2)
-    (is-ready (test .before) ∙ test .if1 .taken) (hand .result .high) (hand .result .floor) _ _ _
+    (is-ready (test .before) ∙ test .if1 .taken) (hand .result) _ _ _ _
     (hand .ensures .0) (hand .ensures .1) (hand .ensures .2) (hand .ensures .3) (hand .ensures .4)
 
 put-frame-requires : tie.Need-put-frame-requires
 put-frame-requires c κs = let s = start (c .before .before) in (s .pre .0 .1, few (c .before), length-reads _ (s .pre .0 .0))
 
-add-rest : tie.Need-add-rest
-add-rest c = search needs
+add-rest-2 : tie.Need-add-rest-2
+add-rest-2 c = search needs
 
 returns-2 : tie.Need-returns-2
 returns-2 c =
@@ -60,9 +60,9 @@ take-spec =
     (tie.spec
     ready-requires
     hand-requires
-    add-count
+    add-rest
     same-length
     returns
     put-frame-requires
-    add-rest
+    add-rest-2
     returns-2)

@@ -171,10 +171,9 @@ returns-2 c =
     let P = passed (past write) in
     let handed = hand .hand in
     let s = settled .settle-slots in
-    let stage-is = stage-handed P _ (part write) (handed .result .high) (handed .result .floor) (order .in-order .result)
-    (handed .last .1 .1 .1 .1 .0) (handed .last .1 .1 .1 .1 .1 .0) (handed .last .1 .1 .1 .1 .1 .1 .1 .0)
-    (handed .ensures .0) (order .in-order .ensures) (handed .ensures .1) (handed .ensures .2) (handed .ensures .3)
-    (handed .ensures .4) in
+    let stage-is = stage-handed P _ (part write) (handed .result) (handed .last .1 .1 .1 .0) (order .in-order .result) (handed .last .1 .1 .1 .1 .0)
+    (handed .last .1 .1 .1 .1 .1 .0) (handed .last .1 .1 .1 .1 .1 .1 .1 .0)
+    (handed .ensures .0) (order .in-order .ensures) (handed .ensures .1) (handed .ensures .2) (handed .ensures .3) (handed .ensures .4) in
     let settles = rw stage-is at (s .ensures) in (
       sent-done P (valid-kept (lent (back (past write))) (checked P .valid)) (s .last .1 .1 .1 .1 .1 .1 .1 .1 .1 .0)
           (stage (left (back (past write) .args .own) (back (past write) .args .time) (s .last .1 .1 .0) (s .result) (s .last .1 .1 .1 .1 .0) (s .last .1 .1 .1 .1 .1 .0)) (firstSlots 32)

@@ -42,8 +42,8 @@ abbrev calls : ℕ
     × Out 1 leave-kinds.ps leave-kinds.r
     × In 1 kept-frame-kinds.ps
     × Out 1 kept-frame-kinds.ps kept-frame-kinds.r
-    × In 4 hand-kinds.ps
-    × Out 4 hand-kinds.ps hand-kinds.r
+    × In 5 hand-kinds.ps
+    × Out 5 hand-kinds.ps hand-kinds.r
     × In 8 settle-kinds.ps
     × Out 8 settle-kinds.ps settle-kinds.r
 calls t = (
@@ -103,48 +103,48 @@ settle-cast-slot t c =
 
 settle-kept-frame-requires : (t : ℕ) → settle-lts.Need-kept-frame-requires (calls t) (settle-at t) settle.Post
 settle-kept-frame-requires t c κs =
-    let leave = c .before .before .before .before in
+    let leave = c .before .before .before .before .before in
     let b = leave .before .before in
     let listed = start t b .pre .1 .0 .1 in
     rw (leave .leave .ensures .0) (start t b .pre .1 .0 .0, listed .below _ (below t b), reads-fits _ _ (listed .reads _ (below t b)))
 
 settle-hand-requires : (t : ℕ) → settle-lts.Need-hand-requires (calls t) (settle-at t) settle.Post
 settle-hand-requires t c κs =
-    let leave = c .before .before .before .before .before .before in
+    let leave = c .before .before .before .before .before .before .before in
     let b = leave .before .before in
     let s = start t b in
     (rw (c .before .kept-frame .ensures, leave .leave .ensures .0) (s .pre .1 .0 .1 .reads _ (below t b)), omega (arith, below t b, s .pre .1 .1))
 
 -- the message in the slot that has left the list was handed
-handed : (t : ℕ) (c : settle-lts.After-hand (calls t) (settle-at t) settle.Post) → let b = c .before .before .before .before .before .before .before .before .before in
-    let leave = c .before .before .before .before .before .before .before in
+handed : (t : ℕ) (c : settle-lts.After-hand (calls t) (settle-at t) settle.Post) → let b = c .before .before .before .before .before .before .before .before .before .before in
+    let leave = c .before .before .before .before .before .before .before .before in
     HandedAt (start t b .args .slots .now) (b .before .before .choice .result .place) (from t (start t b))
-    (stage (oneHanded (begun t (start t b)) (c .hand .result .high) (c .hand .result .floor)) (leave .leave .last .0) (c .hand .last .1 .1 .1 .1 .0) (c .hand .last .1 .1 .1 .1 .1 .0)
+    (stage (oneHanded (begun t (start t b)) (c .hand .result) (c .hand .last .1 .1 .1 .0)) (leave .leave .last .0) (c .hand .last .1 .1 .1 .1 .0) (c .hand .last .1 .1 .1 .1 .1 .0)
     (c .hand .last .1 .1 .1 .1 .1 .1 .1 .0))
 handed t c =
-    let b = c .before .before .before .before .before .before .before .before .before in
+    let b = c .before .before .before .before .before .before .before .before .before .before in
     let s = start t b in
     let a = s .args in
-    let leave = c .before .before .before .before .before .before .before .leave in
+    let leave = c .before .before .before .before .before .before .before .before .leave in
     let frame = c .before .before .kept-frame in
     let is = ap (messageIn 4) (sym (frame .ensures ∙ ap (frameAt (a .slots .now)) (leave .ensures .0))) in
     handed-at (a .slots .now) (b .before .before .choice .result .place) (begun t s) (a .places .now) (leave .last .0) (a .marks .now) (a .barrier .now)
     (a .output .now) (messageIn 4 (frame .result .now)) (s .pre .1 .0 .1) (s .pre .1 .0 .2) (below t b) is (leave .ensures .1)
-    (c .hand .result .high) (c .hand .result .floor) _ _ _ (c .hand .ensures .0) (c .hand .ensures .1) (c .hand .ensures .2) (c .hand .ensures .3)
+    (c .hand .result) _ _ _ _ (c .hand .ensures .0) (c .hand .ensures .1) (c .hand .ensures .2) (c .hand .ensures .3)
     (c .hand .ensures .4)
 
 settle-add-handed : (t : ℕ) → settle-lts.Need-add-handed (calls t) (settle-at t) settle.Post
 settle-add-handed t c =
-    let b = c .before .before .before .before .before .before .before .before .before .before .before in
+    let b = c .before .before .before .before .before .before .before .before .before .before .before .before in
     omega (arith, below t b, start t b .pre .1 .1, start t b .good)
 
 settle-sub-settle : (t : ℕ) → settle-lts.Need-sub-settle (calls t) (settle-at t) settle.Post
-settle-sub-settle t c = omega (arith, below t (c .before .before .before .before .before .before .before .before .before .before .before .before))
+settle-sub-settle t c = omega (arith, below t (c .before .before .before .before .before .before .before .before .before .before .before .before .before))
 
 settle-settle-requires : (t : ℕ) → settle-lts.Need-settle-requires (calls t) (settle-at t) settle.Post
 settle-settle-requires t c κs =
     let hand = c .before .before .before .before .before .before .before .before .before in
-    let leave = hand .before .before .before .before .before .before .before in
+    let leave = hand .before .before .before .before .before .before .before .before in
     let b = leave .before .before in
     let s = start t b in (
       omega (arith, s .pre .0, below t b),
@@ -164,7 +164,7 @@ settle-returns-2 : (t : ℕ) → settle-lts.Need-returns-2 (calls t) (settle-at 
 settle-returns-2 t c =
     let rest = c .before .before .settle in
     let hand = c .before .before .before .before .before .before .before .before .before .before .before .before in
-    let b = hand .before .before .before .before .before .before .before .before .before in
+    let b = hand .before .before .before .before .before .before .before .before .before .before in
     let choice = b .before .before .choice in
     let s = start t b in
     settles-some (s .args .slots .now) (from t s) (s .pre .1 .0 .1) (s .pre .1 .0 .2) (choice .result) (choice .ensures)

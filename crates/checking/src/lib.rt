@@ -52,10 +52,11 @@ fn early_number<'a, 'b>(
     let from = source(frame);
     let due = deadline(frame);
     let mark = marks[from as usize];
+    let late = has_lapsed(due, time, floor);
     if from == own {
         return 20; // its source is the own number
     }
-    if has_lapsed(due, time, floor) {
+    if late {
         return 21; // it has lapsed
     }
     if FARTHEST_AHEAD < due - time {

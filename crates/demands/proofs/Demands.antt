@@ -20,8 +20,10 @@ use Rattle.rules.specs.Refusals.{tooFarAhead, Listed, freshNumber}
 use Rattle.rules.specs.Results.{Call, send, receive, outputOf, bufferOf, effectOf, refused, defined}
 use Rattle.rules.specs.Visiting.{Counted, trace}
 use Rattle.rules.specs.Lists.{recordAt, givenTo, sends, Before, Lawful}
+use Rattle.rules.specs.Lapsing.{floorAt}
 use Rattle.rules.specs.Demand3.{Demand3}
 use Rattle.rules.specs.FarAhead.{FarAhead}
+use Rattle.rules.specs.Cases.{withFloor}
 use Rattle.barriers.specs.Barriers.{asOld, NoLonger, StaysOrGoes}
 use Rattle.rules.proofs.Theorems.{demand-3, number-listed, reading-listed, fresh-listed, trace-listed, refusal-unchanged, sent-reads, trace-waits-reached}
 use Rattle.rules.proofs.Visiting.{visits-counted}
@@ -29,6 +31,9 @@ use Rattle.rules.proofs.Tracing.{trace-number, trace-handed}
 use Rattle.rules.proofs.FarAhead.{far-ahead, causes-near}
 use Rattle.rules.proofs.Shortened.{own-goes-in}
 use Rattle.barriers.proofs.Barriers.{no-longer, stays-or-goes}
+use Rattle.floors.specs.Floors.{SettingBack, FloorMeaning, isSetBack, neverSetBack, Idle, IdleFloor, AlikeButFloor}
+use Rattle.floors.proofs.Floors.{setting-back, floor-counted, floor-meaning, floor-idle}
+use Rattle.floors.proofs.NoFloor.{no-floor-needed}
 use Rattle.exports.proofs.Fresh.{freshRecord-within}
 use Rattle.demands.specs.Beginning.{BeginsInPlace, BeginsByValue}
 use Rattle.demands.specs.Lists.{FarmCall, farm, Follows}
@@ -83,6 +88,17 @@ pub record Demands (M : Type 1) : Type 2 where
       → NoLonger (givenTo panel oldMake (asOld (farm list))) (givenTo panel make (farm list))
   pub stays-or-goes : (list : List FarmCall) → Follows list → Lawful (farm list) → (panel : ℕ)
       → StaysOrGoes (recordAt panel (asOld (farm list))) (recordAt panel (farm list))
+  -- Document 02, W-207: a set-back call lowers the time and does nothing else; no call lowers the floor. After lists of demand 3, the floor of the
+  -- record is the one counted from the list, and is the largest deadline of a message that the log went without; where no set-back call was
+  -- made, it decides nothing. And where it decides nothing, no call but a set-back call needs it: a panel without a floor does the same.
+  pub setting-back : (p : Panel) → SettingBack p
+  pub floor-counted : (list : List FarmCall) → Follows list → Lawful (farm list) → (panel : ℕ)
+      → recordAt panel (farm list) .floor ≡ floorAt panel (farm list)
+  pub floor-meaning : (list : List FarmCall) → Follows list → Lawful (farm list) → (panel : ℕ) → FloorMeaning (farm list) panel
+  pub floor-idle : (list : List FarmCall) → Follows list → Lawful (farm list) → (panel : ℕ) → neverSetBack panel (farm list) ≡ true
+      → Idle (farm list) panel
+  pub no-floor-needed : (p : Panel) (floor : ℕ) → IdleFloor (p .floor) (p .time) → IdleFloor floor (p .time) → (call : Call)
+      → isSetBack call ≡ false → AlikeButFloor (defined p call) (defined (withFloor floor p) call)
 
 -- The code keeps the demands.
 pub demands : {M : Type 1} → Demands M
@@ -109,4 +125,9 @@ demands =
       own-goes-in = own-goes-in;
       no-longer = λ list follows. no-longer (farm list) (follows-promised list follows);
       stays-or-goes = λ list follows lawful. stays-or-goes (farm list) lawful (follows-promised list follows);
+      setting-back = setting-back;
+      floor-counted = λ list follows lawful. floor-counted (farm list) lawful (follows-promised list follows);
+      floor-meaning = λ list follows lawful. floor-meaning (farm list) lawful (follows-promised list follows);
+      floor-idle = λ list follows lawful. floor-idle (farm list) lawful (follows-promised list follows);
+      no-floor-needed = no-floor-needed;
     }

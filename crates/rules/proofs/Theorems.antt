@@ -27,7 +27,6 @@ use Rattle.rules.specs.Refusals.{isRefusal, Listed, broken, freshNumber,
 use Rattle.rules.specs.Results.{Call, outputOf, bufferOf, checksOf, effectOf, frameOf, Result, refused, done, defined, Promised, send}
 use Rattle.rules.specs.Visiting.{traceChecks, trace}
 use Rattle.rules.specs.Lists.{_isIn_, Made, recordAt, givenTo, logAt, Lawful, AllPromised, ran}
-use Rattle.rules.specs.Lapsing.{floorAt}
 use Rattle.rules.specs.Demand3.{Demand3}
 use Rattle.rules.proofs.Booleans.{or-either, cond-both}
 use Rattle.rules.proofs.Settling.{settle-settles}
@@ -67,10 +66,6 @@ pub every-mixture : (makes : ℕ → Make) (gives : Panel → Call → Result) �
     → let list = ran gives (map (λ (next : ℕ × Call). (next .0, makes (next .0), next .1)) calls) in
     Lawful list → Demand3 list
 every-mixture makes gives promise calls = every-list gives promise (map (λ (next : ℕ × Call). (next .0, makes (next .0), next .1)) calls)
-
--- The floor that a record has is the one counted from the list.
-pub floor-counted : (list : List Made) → Lawful list → AllPromised list → (panel : ℕ) → recordAt panel list .floor ≡ floorAt panel list
-floor-counted list lawful promised panel = list-sound list lawful promised .sites panel .floor
 
 -- A mark is the largest deadline in this panel's log from that source; 0 means none.
 pub mark-largest : (list : List Made) → Lawful list → AllPromised list → (panel source : ℕ)

@@ -7,29 +7,29 @@ use Rattle.rules.specs.Panel.{Panel, none64}
 use Rattle.rules.specs.Results.{send, receive, clock, setBack}
 use Rattle.rules.specs.Cases.{Step, step, of, panelOf, withFloor, output, buffer, logged, frameFrom, zeros8, sent, taken, setBackTo, refusedWith}
 
--- ---- A clock set to a wrong year. Panel 0, at time 100, hears "hold lifted" of panel 3, deadline 1301, which names the hold, deadline 1300. The
--- hold lapses, and the log goes without it. Then the clock shows a wrong year: the panel is deaf. Set back, it still refuses the hold; a later
--- message, 2000 of panel 5, is taken and stands in order.
+-- ---- A clock set to a wrong year. Panel 0, at time 100, hears "hold lifted" of panel 5, deadline 1301, which names the hold of panel 3, deadline
+-- 1300. The hold lapses, and the log goes without it. Then the clock shows a wrong year: the panel is deaf. Set back, it still refuses the hold,
+-- by the floor; a later message, 2000 of panel 6, is taken and stands in order.
 
 unfoldable pub caseWrongYear : List Step
 caseWrongYear =
     let hold = frameFrom (0x03 ∷ 0x00 ∷ 0x00 ∷ 0x05 ∷ 0x14 ∷ zeros8) (0x00 ∷ []) in
-    let lifted = frameFrom (0x03 ∷ 0x00 ∷ 0x00 ∷ 0x05 ∷ 0x15 ∷ replicate 7 0x00) (0x08 ∷ 0x00 ∷ 0x00 ∷ 0x05 ∷ 0x14 ∷ 0x00 ∷ []) in
-    let after = frameFrom (0x05 ∷ 0x00 ∷ 0x00 ∷ 0x07 ∷ 0xd0 ∷ zeros8) (0x00 ∷ []) in
-    let only3 = of ((3, 1301) ∷ []) in
-    let both = of ((3, 1301) ∷ (5, 2000) ∷ []) in
-    let at : ℕ → Panel = λ time. withFloor 1300 (panelOf 0 time 1301 only3 only3 []) in
+    let lifted = frameFrom (0x05 ∷ 0x00 ∷ 0x00 ∷ 0x05 ∷ 0x15 ∷ replicate 7 0x00) (0x08 ∷ 0x00 ∷ 0x00 ∷ 0x05 ∷ 0x14 ∷ 0x00 ∷ []) in
+    let after = frameFrom (0x06 ∷ 0x00 ∷ 0x00 ∷ 0x07 ∷ 0xd0 ∷ zeros8) (0x00 ∷ []) in
+    let only5 = of ((5, 1301) ∷ []) in
+    let both = of ((5, 1301) ∷ (6, 2000) ∷ []) in
+    let at : ℕ → Panel = λ time. withFloor 1300 (panelOf 0 time 1301 only5 only5 []) in
     let start = panelOf 0 100 0 none64 none64 [] in
-    let waits = panelOf 0 100 0 none64 none64 (messageOf 3 1301 (of ((3, 1300) ∷ [])) [] ∷ []) in
+    let waits = panelOf 0 100 0 none64 none64 (messageOf 5 1301 (of ((3, 1300) ∷ [])) [] ∷ []) in
     step start (receive lifted output) (taken waits [])
-    ∷ step waits (clock 1301 output) (taken (at 1301) (logged (3 ∷ 0x00 ∷ 0x00 ∷ 0x05 ∷ 0x15 ∷ 0 ∷ []) ∷ []))
+    ∷ step waits (clock 1301 output) (taken (at 1301) (logged (5 ∷ 0x00 ∷ 0x00 ∷ 0x05 ∷ 0x15 ∷ 0 ∷ []) ∷ []))
     ∷ step (at 1301) (clock 4000000000 output) (taken (at 4000000000) [])
     ∷ step (at 4000000000) (receive after output) (refusedWith 21 (at 4000000000) output [])
     ∷ step (at 4000000000) (clock 100 output) (refusedWith 25 (at 4000000000) output [])
     ∷ step (at 4000000000) (setBack 100) (setBackTo (at 100))
     ∷ step (at 100) (receive hold output) (refusedWith 21 (at 100) output [])
     ∷ step (at 100) (receive after output)
-    (taken (withFloor 1300 (panelOf 0 100 2000 both both [])) (logged (5 ∷ 0x00 ∷ 0x00 ∷ 0x07 ∷ 0xd0 ∷ 0 ∷ []) ∷ []))
+    (taken (withFloor 1300 (panelOf 0 100 2000 both both [])) (logged (6 ∷ 0x00 ∷ 0x00 ∷ 0x07 ∷ 0xd0 ∷ 0 ∷ []) ∷ []))
     ∷ []
 
 -- ---- The floor. At time 860 panel 0 hands 900 of panel 5. Of its entries, which have all lapsed, 840 of panel 6 is reached by the mark; 820 of

@@ -39,24 +39,24 @@ mark c = ap (λ (s : ℕ). getD (now (start c .args .marks)) s 0) (from c)
 abbrev checksOf : tie.After-deadline → List (Bool × ℕ)
 checksOf c = let a = start c .args in table (a .own) (a .time) (now (a .marks)) (now (a .slots)) (a .count) (a .floor) (m c)
 
-past1 : (c : tie.Else1) → Past (checksOf (c .before .before)) 1
-past1 c = past-own _ _ _ _ _ _ _ (λ e. c .if1 .left (from (c .before .before) ∙ e))
-
-tested : (c : tie.After-has-lapsed) → let d = c .before .before .before in
+tested : (c : tie.After-has-lapsed) → let d = c .before .before in
     c .has-lapsed .result ≡ hasLapsed (start d .args .time) (start d .args .floor) (m d .deadline)
 tested c =
-    let d = c .before .before .before in
+    let d = c .before .before in
     c .has-lapsed .ensures ∙ ap (hasLapsed (start d .args .time) (start d .args .floor)) (due d)
+
+past1 : (c : tie.Else1) → Past (checksOf (c .before .before .before)) 1
+past1 c = past-own _ _ _ _ _ _ _ (λ e. c .if1 .left (from (c .before .before .before) ∙ e))
 
 alive : (c : tie.Else2) → let d = c .before .before .before .before in
     hasLapsed (start d .args .time) (start d .args .floor) (m d .deadline) ≡ false
-alive c = sym (tested (c .before)) ∙ c .if2 .left
+alive c = sym (tested (c .before .before)) ∙ c .if2 .left
 
 live : (c : tie.Else2) → let d = c .before .before .before .before in start d .args .time ≤ m d .deadline
 live c = hasLapsed-false _ _ _ (alive c) .0
 
 past2 : (c : tie.Else2) → Past (checksOf (c .before .before .before .before)) 2
-past2 c = past-lapsed _ _ _ _ _ _ _ (past1 (c .before .before)) (alive c)
+past2 c = past-lapsed _ _ _ _ _ _ _ (past1 (c .before)) (alive c)
 
 past3 : (c : tie.Else3) → Past (checksOf (c .before .before .before .before .before)) 3
 past3 c = past-far _ _ _ _ _ _ _ (past2 (c .before)) (omega (arith, c .if3 .left, due (c .before .before .before .before .before), live (c .before)))
@@ -85,10 +85,10 @@ has-lapsed-requires : tie.Need-has-lapsed-requires
 has-lapsed-requires c κs = tt
 
 returns : tie.Need-returns
-returns c = number-own _ _ _ _ _ _ _ (omega (arith, from (c .before .before), c .if1 .taken))
+returns c = number-own _ _ _ _ _ _ _ (omega (arith, from (c .before .before .before), c .if1 .taken))
 
 returns-2 : tie.Need-returns-2
-returns-2 c = number-lapsed _ _ _ _ _ _ _ (past1 (c .before .before)) (sym (tested (c .before)) ∙ c .if2 .taken)
+returns-2 c = number-lapsed _ _ _ _ _ _ _ (past1 (c .before)) (sym (tested (c .before .before)) ∙ c .if2 .taken)
 
 sub-if3 : tie.Need-sub-if3
 sub-if3 c = omega (arith, due (c .before .before .before .before), live c)
@@ -124,8 +124,8 @@ early-number-spec =
     cast-mark
     mul-mark
     element-copy-out-mark
-    returns
     has-lapsed-requires
+    returns
     returns-2
     sub-if3
     returns-3

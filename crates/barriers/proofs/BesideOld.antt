@@ -4,7 +4,6 @@ use Prim.Native.Nat.{ℕ, zero, suc, _+_, _≤_, max}
 use native.Mathlib.Omega.{arith}
 use mathlib.Core.Path.{_≡_, refl, sym, ap, _∙_}
 use mathlib.Core.Logic.{_⊎_, ⊎-elim}
-use mathlib.Core.Bool.{not}
 use mathlib.Core.Option.{Option, none, some}
 use mathlib.Core.List.{List, [], _∷_, _++_}
 use lib.ListN.{length, getD}
@@ -13,7 +12,6 @@ use Rattle.rules.specs.Panel.{Make, oldMake, Panel, none64, lapsed, met, ready}
 use Rattle.rules.specs.Handing.{raise, barrierFor, missed, hand, logRecord, logRecords}
 use Rattle.rules.specs.Settling.{choice, chosen, without, withWaiting, Settled, waitingAt, handThen, goOn, settleIn, settle}
 use Rattle.rules.specs.Calls.{emptied}
-use Rattle.rules.specs.Results.{done}
 use Rattle.barriers.specs.Barriers.{withBarrier}
 use Rattle.rules.proofs.Raise.{length-raise, raise-mono, raise-bound, getD-none64, length-none64}
 use Rattle.rules.proofs.Shortened.{getD-barrierFor, length-barrierFor}

@@ -1,6 +1,6 @@
 -- A panel that removes barrier entries by its marks, and not by the entries that the message carries, breaks demand 3. Assumes nothing.
 use Prim.Native.Nat.{ℕ}
-use mathlib.Core.Path.{_≡_, refl}
+use mathlib.Core.Path.{refl}
 use mathlib.Core.Logic.{inl, inr}
 use mathlib.Core.List.{List, [], _∷_, List·Memᴰ·head as first, List·Memᴰ·tail as later}
 use lib.ListN.{replicate}

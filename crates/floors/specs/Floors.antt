@@ -8,7 +8,7 @@ use mathlib.Core.List.{List, [], _∷_}
 use Rattle.rules.specs.Panel.{Name, Panel}
 use Rattle.rules.specs.Calls.{withTime}
 use Rattle.rules.specs.Results.{Call, send, receive, clock, setBack, Result, defined}
-use Rattle.rules.specs.Lists.{_isIn_, Made, on, recordAt, logAt, timeAt, sends, Before}
+use Rattle.rules.specs.Lists.{_isIn_, Made, on, logAt, timeAt, sends, Before}
 use Rattle.rules.specs.Lapsing.{floorAt, LapsedAt}
 use Rattle.rules.specs.Cases.{withFloor}
 

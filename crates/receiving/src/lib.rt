@@ -22,7 +22,7 @@ ghost use Rattle.rules.specs.Results.{receive};
 ghost use Rattle.slots.specs.Slots.{Reads, Slots, Kept, firstSlots};
 ghost use Rattle.choosing.specs.Choice.{asking};
 ghost use Rattle.settling.specs.Record.{stage};
-ghost use Rattle.parts.specs.Record.{parts, recordOf, PromisedInPlace};
+ghost use Rattle.parts.specs.Record.{parts, PromisedInPlace};
 ghost use Rattle.receiving.specs.Steps.{Taken};
 
 // Takes the message of a readable frame: a ready one is handed without entering the list, any other

@@ -12,7 +12,7 @@ use lib.Dec.{leb}
 use borrow.Author.Tests.{leb-true, leb-false}
 use Rattle.frame.specs.Message.{Message}
 use Rattle.frame.proofs.Conjunction.{and-both}
-use Rattle.rules.specs.Panel.{Make, Panel, ofMake, hasLapsed, lapsed, met, eachPanel, ready}
+use Rattle.rules.specs.Panel.{Make, Panel, ofMake, lapsed, met, eachPanel, ready}
 use Rattle.rules.specs.Handing.{hand}
 use Rattle.rules.specs.Settling.{withWaiting}
 use Rattle.rules.specs.Calls.{sendDeadline, emptied, withTime}

@@ -1,10 +1,10 @@
 -- A set-back call keeps what holds of a list. Assumes nothing.
-use Prim.Native.Nat.{ℕ, _≤_, min}
+use Prim.Native.Nat.{ℕ, min}
 use native.Mathlib.Omega.{arith}
-use mathlib.Core.Path.{_≡_, refl, ap, subst⁻¹}
+use mathlib.Core.Path.{refl, ap}
 use mathlib.Core.List.{List, [], _∷_, append-nil}
 use Rattle.frame.specs.Refusal.{firstOf}
-use Rattle.rules.specs.Panel.{Name, Make, Panel}
+use Rattle.rules.specs.Panel.{Make, Panel}
 use Rattle.rules.specs.Calls.{withTime, settingBack}
 use Rattle.rules.specs.Refusals.{setBackChecks}
 use Rattle.rules.specs.Results.{setBack, done, defined}

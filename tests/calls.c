@@ -930,12 +930,12 @@ static void old_and_new(const char *note_2)
     }
 }
 
-/* Panel 3 with the entries that an older version has after the first two notes: that which the
+/* Panel 3 with the entries that a panel of the old make has after the first two notes: that which the
    second did not remove goes into the next frame. */
-static const Record of_older_version = {
+static const Record of_old_make = {
     .high = 200, .marks = {{0, 100}, {1, 200}}, .barrier = {{0, 100}, {1, 200}}};
 
-static const Step from_older_version[] = {
+static const Step from_old_make[] = {
     {__LINE__, RECEIVE, .at = 3, .bytes = NOTE_2, .log = {"02 0000012c 00"},
      .record = {.high = 300, .marks = {{0, 100}, {1, 200}, {2, 300}},
                 .barrier = {{0, 100}, {2, 300}}}},
@@ -1057,7 +1057,7 @@ static void shorter_barriers(void)
     RUN("the busy yard", busy_yard);
     old_and_new(NOTE_2);
     old_and_new(NOTE_2_OLD);
-    RUN_FROM("entries of an older version", &of_older_version, from_older_version);
+    RUN_FROM("entries of the old make", &of_old_make, from_old_make);
     borders();
     each_panel_removed();
 }

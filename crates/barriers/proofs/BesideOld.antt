@@ -9,7 +9,7 @@ use mathlib.Core.List.{List, [], _∷_, _++_}
 use lib.ListN.{length, getD}
 use Rattle.frame.specs.Message.{Message, messageOf}
 use Rattle.rules.specs.Panel.{Make, oldMake, Panel, none64, lapsed, met, ready}
-use Rattle.rules.specs.Handing.{raise, barrierFor, missed, hand, logRecord, logRecords}
+use Rattle.rules.specs.Handing.{raise, barrierFor, missedAt, hand, logRecord, logRecords}
 use Rattle.rules.specs.Settling.{choice, chosen, without, withWaiting, Settled, waitingAt, handThen, goOn, settleIn, settle}
 use Rattle.rules.specs.Calls.{emptied}
 use Rattle.barriers.specs.Barriers.{withBarrier}
@@ -48,10 +48,6 @@ beside-emptied p b B =
 barrierFor-old : (make : Make) (p : Panel) (m : Message) → make ≡ oldMake → barrierFor make p m ≡ p .barrier
 unfolding barrierFor
 barrierFor-old make p m e = rw e
-
--- the entries that a panel would miss, of a message that carries these
-abbrev pub missedAt : Panel → List ℕ → ℕ
-missedAt p entries = missed (p .time) (p .floor) (λ k. getD (p .marks) k 0) entries
 
 module _ (p : Panel) (make : Make) (b : List ℕ) (B : Beside p b) (source deadline : ℕ) (entries entries′ payload : List ℕ)
     (same : missedAt p entries′ ≡ missedAt p entries) where

@@ -121,7 +121,7 @@ firstBelow-all p ms place le = ap (λ (l : List Message). firstIn l (choice p l)
 
 -- ---- what is found, and the choice
 
--- the choice asks for the marks and the time alone
+-- the choice asks for the marks, the time and the floor alone
 choice-asking : (p : Panel) (ms : List Message) → choice p ms ≡ choice (asking (p .marks) (p .time) (p .floor)) ms
 unfolding choice ready met lapsed
 choice-asking p [] = refl

@@ -1,5 +1,5 @@
 -- What the floor means, when it decides nothing, and what set-back calls do. Assumes nothing.
-use Prim.Native.Nat.{ℕ, _+_, min, max, _≤_, _<_}
+use Prim.Native.Nat.{ℕ, _+_, min, _≤_}
 use native.Mathlib.Decide.{ℕ-discrete}
 use native.Mathlib.Omega.{arith}
 use mathlib.Core.Path.{_≡_, refl, sym, _∙_, subst, subst⁻¹}
@@ -29,7 +29,7 @@ use Rattle.rules.proofs.Checks.{clock-passed}
 use Rattle.rules.proofs.Sites.{Site, siteAt-here, siteAt-other}
 use Rattle.rules.proofs.Steps.{ListSound}
 use Rattle.rules.proofs.Reached.{list-sound}
-use Rattle.floors.specs.Floors.{SettingBack, FloorMeaning, isSetBack, neverSetBack, Idle}
+use Rattle.floors.specs.Floors.{SettingBack, FloorMeaning, isSetBack, neverSetBack, Idle, IdleFloor}
 
 -- ---- at any panel
 
@@ -94,11 +94,7 @@ module _ (list : List Made) (lawful : Lawful list) (promised : AllPromised list)
 
 -- ---- where no set-back call was made
 
--- the floor is below the time, or both are 0 at first
-abbrev Below : ℕ → ℕ → Type 0
-Below floor time = floor < max time 1
-
-below-after : (sent : List Sent) (time floor : ℕ) (log handed : List Name) → Below floor time → Below (floorAfter sent time floor log handed) time
+below-after : (sent : List Sent) (time floor : ℕ) (log handed : List Name) → IdleFloor floor time → IdleFloor (floorAfter sent time floor log handed) time
 unfolding floorAfter floorHanded
 below-after sent time floor log [] below = below
 below-after sent time floor log (n ∷ handed) below =
@@ -117,7 +113,7 @@ time-rises p (clock reading output) time other same =
     (λ _. omega arith)
 time-rises p (setBack reading) time other same = absurd (true≢false other)
 
-below-time : (list : List Made) → Lawful list → AllPromised list → (panel : ℕ) → neverSetBack panel list ≡ true → Below (floorAt panel list) (timeAt panel list)
+below-time : (list : List Made) → Lawful list → AllPromised list → (panel : ℕ) → neverSetBack panel list ≡ true → IdleFloor (floorAt panel list) (timeAt panel list)
 unfolding neverSetBack floorAt timeAt
 below-time [] lawful promised panel never = omega arith
 below-time (last ∷ earlier) (given, lawful) (promise, promised) panel never =
@@ -125,11 +121,11 @@ below-time (last ∷ earlier) (given, lawful) (promise, promised) panel never =
     let before = below-time earlier lawful promised panel (both .1) in
     by-cases (ℕ-discrete panel (last .at)) (here (both .0) before) (elsewhere before)
   where
-    elsewhere : Below (floorAt panel earlier) (timeAt panel earlier) → panel ≢ last .at → Below (floorAt panel (last ∷ earlier)) (timeAt panel (last ∷ earlier))
-    elsewhere before other = subst⁻¹ (λ (s : Site). Below (s .floor) (s .time)) (siteAt-other panel last earlier other) before
+    elsewhere : IdleFloor (floorAt panel earlier) (timeAt panel earlier) → panel ≢ last .at → IdleFloor (floorAt panel (last ∷ earlier)) (timeAt panel (last ∷ earlier))
+    elsewhere before other = subst⁻¹ (λ (s : Site). IdleFloor (s .floor) (s .time)) (siteAt-other panel last earlier other) before
 
-    here : not (on panel last && isSetBack (last .call)) ≡ true → Below (floorAt panel earlier) (timeAt panel earlier) → panel ≡ last .at
-        → Below (floorAt panel (last ∷ earlier)) (timeAt panel (last ∷ earlier))
+    here : not (on panel last && isSetBack (last .call)) ≡ true → IdleFloor (floorAt panel earlier) (timeAt panel earlier) → panel ≡ last .at
+        → IdleFloor (floorAt panel (last ∷ earlier)) (timeAt panel (last ∷ earlier))
     here clear before e =
         let p = givenTo (last .at) (last .make) earlier in
         let time = timeAt (last .at) earlier in
@@ -138,9 +134,9 @@ below-time (last ∷ earlier) (given, lawful) (promise, promised) panel never =
         let rises : time ≤ timeAfter time (last .call) (last .result) =
         subst⁻¹ (λ (r : Result). time ≤ timeAfter time (last .call) r) promise
         (time-rises p (last .call) time other (list-sound earlier lawful promised .sites (last .at) .time)) in
-        let below : Below (floorAt (last .at) earlier) time = subst (λ (k : ℕ). Below (floorAt k earlier) (timeAt k earlier)) e before in
-        subst⁻¹ (λ (k : ℕ). Below (floorAt k (last ∷ earlier)) (timeAt k (last ∷ earlier))) e
-        (subst⁻¹ (λ (s : Site). Below (s .floor) (s .time)) (siteAt-here last earlier)
+        let below : IdleFloor (floorAt (last .at) earlier) time = subst (λ (k : ℕ). IdleFloor (floorAt k earlier) (timeAt k earlier)) e before in
+        subst⁻¹ (λ (k : ℕ). IdleFloor (floorAt k (last ∷ earlier)) (timeAt k (last ∷ earlier))) e
+        (subst⁻¹ (λ (s : Site). IdleFloor (s .floor) (s .time)) (siteAt-here last earlier)
         (below-after (sends (last ∷ earlier)) _ _ _ _ (omega (arith, rises, below))))
 
 pub floor-idle : (list : List Made) → Lawful list → AllPromised list → (panel : ℕ) → neverSetBack panel list ≡ true → Idle list panel

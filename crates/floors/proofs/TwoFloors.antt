@@ -9,7 +9,7 @@ use lib.ListN.{length, getD}
 use lib.Dec.{leb}
 use Rattle.frame.specs.Message.{Message}
 use Rattle.rules.specs.Panel.{Make, oldMake, newMake, Panel, hasLapsed, lapsed, met, eachPanel, ready}
-use Rattle.rules.specs.Handing.{barrierFor, missed, hand}
+use Rattle.rules.specs.Handing.{barrierFor, missedAt, hand}
 use Rattle.rules.specs.Settling.{chosen, choice, without, withWaiting, Settled, waitingAt, handThen, goOn, settleIn, settle}
 use Rattle.rules.specs.Calls.{alive}
 use Rattle.rules.specs.Cases.{withFloor}
@@ -59,20 +59,17 @@ module _ (p : Panel) (floor : ℕ) (I : BothIdle p floor) where
 
   -- ---- handing
 
-  abbrev missedBy : ℕ → Message → ℕ
-  missedBy f m = missed (p .time) f (λ panel. getD (p .marks) panel 0) (m .entries)
-
   -- which barrier entries are removed does not depend on the floor
   barrier-same : (make : Make) (m : Message) → barrierFor make q m ≡ barrierFor make p m
   unfolding barrierFor
   barrier-same oldMake m = refl
   barrier-same newMake m = refl
 
-  hand-same : (m : Message) → hand q m ≡ withFloor (max floor (missedBy floor m)) (hand p m)
+  hand-same : (m : Message) → hand q m ≡ withFloor (max floor (missedAt q (m .entries))) (hand p m)
   unfolding hand
   hand-same m = rw (barrier-same (p .make) m)
 
-  hand-idle : (m : Message) → BothIdle (hand p m) (max floor (missedBy floor m))
+  hand-idle : (m : Message) → BothIdle (hand p m) (max floor (missedAt q (m .entries)))
   unfolding hand
   hand-idle m =
       record {
@@ -94,7 +91,7 @@ Settler settler = (p : Panel) (floor : ℕ) → BothIdle p floor → SettledAlik
 pub handThen-alike : (settler : Panel → Settled) → Settler settler → (p : Panel) (floor : ℕ) → BothIdle p floor → (m : Message)
     → SettledAlike (handThen settler p m) (handThen settler (withFloor floor p) m)
 handThen-alike settler settles p floor I m =
-    let risen = max floor (missedBy p floor I floor m) in
+    let risen = max floor (missedAt (withFloor floor p) (m .entries)) in
     let rest : SettledAlike (settler (hand p m)) (settler (hand (withFloor floor p) m)) =
     rw (hand-same p floor I m) (settles (hand p m) risen (hand-idle p floor I m)) in
     record { floor = rest .floor; panel = rest .panel; idle = rest .idle; handed = ap (λ (l : List Message). m ∷ l) (rest .handed) }

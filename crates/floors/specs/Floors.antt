@@ -32,13 +32,14 @@ pub record FloorMeaning (list : List Made) (panel : ℕ) : Type 0 where
   pub largest : 0 < floorAt panel list
       → (x n : Name) × (x .deadline ≡ floorAt panel list) × (n isIn logAt panel list) × Before (sends list) x n × ¬ (x isIn logAt panel list)
 
--- no set-back call was made there
+-- is the call a set-back call?
 abbrev pub isSetBack : Call → Bool
 isSetBack (send payload lifetime output buffer) = false
 isSetBack (receive bytes output) = false
 isSetBack (clock time output) = false
 isSetBack (setBack reading) = true
 
+-- no set-back call was made there
 unfoldable pub neverSetBack : ℕ → List Made → Bool
 neverSetBack panel [] = true
 neverSetBack panel (made ∷ earlier) = not (on panel made && isSetBack (made .call)) && neverSetBack panel earlier

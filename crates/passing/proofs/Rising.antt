@@ -66,21 +66,21 @@ missed-risen time floor risen mark entry le = go (hasLapsed time risen entry) re
 
 module _ (bs marks : List ℕ) (time floor : ℕ) where
   -- the entry of a panel, if it was missed
-  abbrev missedAt : ℕ → ℕ
-  missedAt panel = missedEntry time floor (getD marks panel 0) (entryOf bs panel)
+  abbrev missedOf : ℕ → ℕ
+  missedOf panel = missedEntry time floor (getD marks panel 0) (entryOf bs panel)
 
   -- the floor, risen by the entries of the panels below one
   abbrev pub risenBelow : ℕ → ℕ
-  risenBelow panel = max floor (largest panel missedAt)
+  risenBelow panel = max floor (largest panel missedOf)
 
   -- panels without an entry are passed by
-  largest-skip : (panel n : ℕ) → ((k : ℕ) → panel ≤ k → k < panel + n → entryOf bs k ≡ 0) → largest (panel + n) missedAt ≡ largest panel missedAt
+  largest-skip : (panel n : ℕ) → ((k : ℕ) → panel ≤ k → k < panel + n → entryOf bs k ≡ 0) → largest (panel + n) missedOf ≡ largest panel missedOf
   unfolding largest
   largest-skip panel zero none = rw add-zero
   largest-skip panel (suc n) none =
-      let here : missedAt (panel + n) ≡ 0 = rw (none (panel + n) (omega arith) (omega arith)) (missed-none time floor (getD marks (panel + n) 0)) in
+      let here : missedOf (panel + n) ≡ 0 = rw (none (panel + n) (omega arith) (omega arith)) (missed-none time floor (getD marks (panel + n) 0)) in
       let last : panel + suc n ≡ suc (panel + n) = omega arith in
-      ap (λ (k : ℕ). largest k missedAt) last
+      ap (λ (k : ℕ). largest k missedOf) last
       ∙ omega (arith, here, largest-skip panel n (λ k above lt. none k above (omega arith)))
 
   pub risen-start : floor ≡ risenBelow 0
@@ -94,7 +94,7 @@ module _ (bs marks : List ℕ) (time floor : ℕ) where
   risen-end w none e =
       let panel = w .panel in
       let all : 64 ≡ panel + (64 - panel) = omega (arith, w .few) in
-      let skip = ap (λ (n : ℕ). largest n missedAt) all ∙ largest-skip panel (64 - panel) (λ k above lt. end-none w none k above) in
+      let skip = ap (λ (n : ℕ). largest n missedOf) all ∙ largest-skip panel (64 - panel) (λ k above lt. end-none w none k above) in
       e ∙ ap (max floor) (sym skip)
 
   -- a turn: the entry of the next panel whose bit is set
@@ -104,9 +104,9 @@ module _ (bs marks : List ℕ) (time floor : ℕ) where
   risen-on {bits} {passed} {risen} w some next-risen e is =
       let panel = w .panel in
       let reached : next bits ≡ panel + (next bits - panel) = omega (arith, turn-above w some) in
-      let skip : largest (next bits) missedAt ≡ largest panel missedAt =
-      ap (λ (n : ℕ). largest n missedAt) reached ∙ largest-skip panel (next bits - panel) (λ k above lt. turn-skips w some k above (omega (arith, reached))) in
-      let here : max risen (missedEntry time 0 (getD marks (next bits) 0) (numberAt bs (18 + 4 * passed) 4)) ≡ max risen (missedAt (next bits)) =
+      let skip : largest (next bits) missedOf ≡ largest panel missedOf =
+      ap (λ (n : ℕ). largest n missedOf) reached ∙ largest-skip panel (next bits - panel) (λ k above lt. turn-skips w some k above (omega (arith, reached))) in
+      let here : max risen (missedEntry time 0 (getD marks (next bits) 0) (numberAt bs (18 + 4 * passed) 4)) ≡ max risen (missedOf (next bits)) =
       sym (missed-risen time 0 risen (getD marks (next bits) 0) (numberAt bs (18 + 4 * passed) 4) (omega arith))
       ∙ missed-risen time floor risen (getD marks (next bits) 0) (numberAt bs (18 + 4 * passed) 4) (omega (arith, e))
       ∙ ap (λ (entry : ℕ). max risen (missedEntry time floor (getD marks (next bits) 0) entry)) (sym (turn-entry w some)) in

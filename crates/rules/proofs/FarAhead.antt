@@ -170,7 +170,7 @@ far-ahead p =
 -- ---- after every list
 
 -- What is before a message in cause is nearer than it: where the one is not too far ahead at a panel, the other is not either. So nothing that
--- a panel takes waits for a message that it refuses with 32.
+-- a message waits for is refused with 32 at the time at which the message is taken. (After a set back it may be.)
 pub causes-near : (list : List Made) → Lawful list → AllPromised list → (panel : ℕ) (x y : Name) → Before (sends list) x y
     → tooFarAhead (recordAt panel list) (y .deadline) ≡ false → tooFarAhead (recordAt panel list) (x .deadline) ≡ false
 unfolding tooFarAhead

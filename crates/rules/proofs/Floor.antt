@@ -12,7 +12,7 @@ use borrow.Author.Tests.{eqb-true, eq-eqb}
 use Rattle.frame.specs.Message.{Message}
 use Rattle.frame.proofs.Conjunction.{and-both}
 use Rattle.rules.specs.Panel.{Name, nameOf, Panel, hasLapsed}
-use Rattle.rules.specs.Handing.{missed, hand}
+use Rattle.rules.specs.Handing.{missed, missedAt, hand}
 use Rattle.rules.specs.Lists.{_isIn_, Sent, Before, direct}
 use Rattle.rules.specs.Lapsing.{sameName, entriesSent, markIn, floorHanded, isOneOf, notDropped}
 use Rattle.rules.proofs.Booleans.{or-either, not-true, cond-both}
@@ -95,7 +95,7 @@ hand-missing {ss} S {log} p K m (s, i, e) above missing pos =
     (x, n, omega arith, Memᴰ·append-left _ k, b, λ j. ⊎-elim out (λ q. omega (arith, ap (λ (a : Name). a .deadline) q)) (isIn-end log j)))
   where
     risen : ℕ
-    risen = missed (p .time) (p .floor) (λ k. getD (p .marks) k 0) (m .entries)
+    risen = missedAt p (m .entries)
 
     new : p .floor < risen → (k : ℕ) × (getD (m .entries) k 0 ≡ risen) × (getD (p .marks) k 0 < getD (m .entries) k 0)
         → Missing ss (log ++ (nameOf m ∷ [])) (max (p .floor) risen)

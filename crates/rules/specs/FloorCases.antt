@@ -15,7 +15,7 @@ unfoldable pub caseWrongYear : List Step
 caseWrongYear =
     let hold = frameFrom (0x03 ∷ 0x00 ∷ 0x00 ∷ 0x05 ∷ 0x14 ∷ zeros8) (0x00 ∷ []) in
     let lifted = frameFrom (0x05 ∷ 0x00 ∷ 0x00 ∷ 0x05 ∷ 0x15 ∷ replicate 7 0x00) (0x08 ∷ 0x00 ∷ 0x00 ∷ 0x05 ∷ 0x14 ∷ 0x00 ∷ []) in
-    let after = frameFrom (0x06 ∷ 0x00 ∷ 0x00 ∷ 0x07 ∷ 0xd0 ∷ zeros8) (0x00 ∷ []) in
+    let later = frameFrom (0x06 ∷ 0x00 ∷ 0x00 ∷ 0x07 ∷ 0xd0 ∷ zeros8) (0x00 ∷ []) in
     let only5 = of ((5, 1301) ∷ []) in
     let both = of ((5, 1301) ∷ (6, 2000) ∷ []) in
     let at : ℕ → Panel = λ time. withFloor 1300 (panelOf 0 time 1301 only5 only5 []) in
@@ -24,11 +24,11 @@ caseWrongYear =
     step start (receive lifted output) (taken waits [])
     ∷ step waits (clock 1301 output) (taken (at 1301) (logged (5 ∷ 0x00 ∷ 0x00 ∷ 0x05 ∷ 0x15 ∷ 0 ∷ []) ∷ []))
     ∷ step (at 1301) (clock 4000000000 output) (taken (at 4000000000) [])
-    ∷ step (at 4000000000) (receive after output) (refusedWith 21 (at 4000000000) output [])
+    ∷ step (at 4000000000) (receive later output) (refusedWith 21 (at 4000000000) output [])
     ∷ step (at 4000000000) (clock 100 output) (refusedWith 25 (at 4000000000) output [])
     ∷ step (at 4000000000) (setBack 100) (setBackTo (at 100))
     ∷ step (at 100) (receive hold output) (refusedWith 21 (at 100) output [])
-    ∷ step (at 100) (receive after output)
+    ∷ step (at 100) (receive later output)
     (taken (withFloor 1300 (panelOf 0 100 2000 both both [])) (logged (6 ∷ 0x00 ∷ 0x00 ∷ 0x07 ∷ 0xd0 ∷ 0 ∷ []) ∷ []))
     ∷ []
 
@@ -42,7 +42,7 @@ caseFloor =
     let at : ℕ → Panel = λ time. withFloor 820 (panelOf 0 time 900 has has []) in
     let of7 : ℕ → List ℕ = λ low. frameFrom (0x07 ∷ 0x00 ∷ 0x00 ∷ 0x03 ∷ low ∷ zeros8) (0x00 ∷ []) in
     let with7 = of ((5, 900) ∷ (6, 850) ∷ (7, 821) ∷ []) in
-    let of8 = frameFrom (0x08 ∷ 0x00 ∷ 0x00 ∷ 0x03 ∷ 0x89 ∷ 0x00 ∷ 0x00 ∷ 0x00 ∷ 0x00 ∷ 0x00 ∷ 0x00 ∷ 0x02 ∷ 0x00 ∷ []) (0x00 ∷ 0x00 ∷ 0x03 ∷ 0x2f ∷ 0x00 ∷ []) in
+    let of8 = frameFrom (0x08 ∷ 0x00 ∷ 0x00 ∷ 0x03 ∷ 0x89 ∷ replicate 6 0x00) (0x02 ∷ 0x00 ∷ 0x00 ∷ 0x00 ∷ 0x03 ∷ 0x2f ∷ 0x00 ∷ []) in
     let with8 = of ((5, 900) ∷ (6, 850) ∷ (8, 905) ∷ []) in
     step (panelOf 0 800 850 (of ((6, 850) ∷ [])) (of ((6, 850) ∷ [])) (messageOf 5 900 (of ((5, 820) ∷ (6, 840) ∷ (7, 800) ∷ [])) [] ∷ [])) (clock 860 output)
     (taken (at 860) (logged (5 ∷ 0x00 ∷ 0x00 ∷ 0x03 ∷ 0x84 ∷ 0 ∷ []) ∷ []))

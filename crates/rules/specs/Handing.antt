@@ -43,6 +43,10 @@ missedEntry time floor mark entry = cond (hasLapsed time floor entry && ltb mark
 unfoldable pub missed : ℕ → ℕ → (ℕ → ℕ) → List ℕ → ℕ
 missed time floor mark entries = largest 64 (λ panel. missedEntry time floor (mark panel) (getD entries panel 0))
 
+-- at a panel, it is by its time, floor and marks
+abbrev pub missedAt : Panel → List ℕ → ℕ
+missedAt p entries = missed (p .time) (p .floor) (λ panel. getD (p .marks) panel 0) entries
+
 -- Handing: barrier entries are removed (`barrierFor`); then the mark and the barrier entry of its source each become the larger of themselves and
 -- its deadline; high becomes the larger of itself and the deadline; the floor rises to the largest entry that was missed, by the marks before this
 -- handing. (One log record is written to the output: `done` writes those of all messages handed.)
@@ -55,7 +59,7 @@ hand p m =
       marks = raise (p .marks) m;
       barrier = raise (barrierFor (p .make) p m) m;
       waiting = p .waiting;
-      floor = max (p .floor) (missed (p .time) (p .floor) (λ panel. getD (p .marks) panel 0) (m .entries));
+      floor = max (p .floor) (missedAt p (m .entries));
       make = p .make;
     }
 

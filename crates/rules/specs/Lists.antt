@@ -1,4 +1,4 @@
--- Document 01, "The words of demand 3". Each word is a function of a list of calls. (Those that W-207 of document 02 changes stand in `Lapsing`.)
+-- Document 01, "The words of demand 3". Each word is a function of a list of calls. (Floor, lapsed and taken, as W-207 of document 02 has them, stand in `Lapsing`.)
 use Prim.Native.Nat.{ℕ, zero, suc, min}
 use mathlib.Core.Path.{_≡_}
 use mathlib.Core.Logic.{_⊎_, _≢_}

@@ -1,6 +1,7 @@
 // Setting a clock back, the service call of W-207 in document 02, in place for C, on a record that is
 // lent in its parts; include/panel.h makes of it a call on a pointer to the struct. Of the record it may
-// touch the time alone. It accepts any input. A crate and an archive of its own, as it is rarely called.
+// touch the time alone. It accepts any input. A crate and an archive of its own: the object of
+// the other calls is not longer by it.
 use parts::broken;
 ghost use mathlib.Core.List.{[]};
 ghost use Rattle.rules.specs.Results.{setBack};

@@ -167,7 +167,7 @@ impl Panel {
         accepted(log.count(), 0)
     }
 
-    /// The source's discard notice: lapsed waiting messages are dropped and never handed.
+    /// The source's discard notice: lapsed waiting messages are dropped, and not handed.
     fn drop_lapsed(&mut self, log: &mut Log) {
         let limits = self.limits();
         let lapsed = |message: &Message| limits.lapsed(Of::Waiting, message.deadline);

@@ -1,6 +1,6 @@
 -- The demands, kept by the code. Assumes nothing.
 use mathlib.Core.Path.{_≡_, _∙_}
-use mathlib.Core.Bool.{true, false}
+use mathlib.Core.Bool.{Bool, true, false}
 use mathlib.Core.Logic.{_≢_}
 use mathlib.Core.List.{List, [], _∷_}
 use Prim.Native.Nat.{ℕ, _≤_, _<_}
@@ -31,9 +31,10 @@ use Rattle.rules.proofs.Tracing.{trace-number, trace-handed}
 use Rattle.rules.proofs.FarAhead.{far-ahead, causes-near}
 use Rattle.rules.proofs.Shortened.{own-goes-in}
 use Rattle.barriers.proofs.Barriers.{no-longer, stays-or-goes}
-use Rattle.floors.specs.Floors.{SettingBack, FloorMeaning, isSetBack, neverSetBack, Idle, IdleFloor, AlikeButFloor}
+use Rattle.floors.specs.Floors.{SettingBack, FloorMeaning, isSetBack, neverSetBack, Idle, IdleFloor, AlikeButFloor, ranWhere, LogsInOrder}
 use Rattle.floors.proofs.Floors.{setting-back, floor-counted, floor-meaning, floor-idle}
 use Rattle.floors.proofs.NoFloor.{no-floor-needed}
+use Rattle.floors.proofs.SomeWithout.{some-without-floor}
 use Rattle.exports.proofs.Fresh.{freshRecord-within}
 use Rattle.demands.specs.Beginning.{BeginsInPlace, BeginsByValue}
 use Rattle.demands.specs.Lists.{FarmCall, farm, Follows}
@@ -90,7 +91,8 @@ pub record Demands (M : Type 1) : Type 2 where
       → StaysOrGoes (recordAt panel (asOld (farm list))) (recordAt panel (farm list))
   -- Document 02, W-207: a set-back call lowers the time and does nothing else; no call lowers the floor. After lists of demand 3, the floor of the
   -- record is the one counted from the list, and is the largest deadline of a message that the log went without; where no set-back call was
-  -- made, it decides nothing. And where it decides nothing, no call but a set-back call needs it: a panel without a floor does the same.
+  -- made, it decides nothing. Where it decides nothing, no call but a set-back call needs it. So panels that keep none, and are not set back,
+  -- share a farm with the others: the logs are in order.
   pub setting-back : (p : Panel) → SettingBack p
   pub floor-counted : (list : List FarmCall) → Follows list → Lawful (farm list) → (panel : ℕ)
       → recordAt panel (farm list) .floor ≡ floorAt panel (farm list)
@@ -99,6 +101,9 @@ pub record Demands (M : Type 1) : Type 2 where
       → Idle (farm list) panel
   pub no-floor-needed : (p : Panel) (floor : ℕ) → IdleFloor (p .floor) (p .time) → IdleFloor floor (p .time) → (call : Call)
       → isSetBack call ≡ false → AlikeButFloor (defined p call) (defined (withFloor floor p) call)
+  pub some-without-floor : (keeps : ℕ → Bool) (calls : List (ℕ × Make × Call))
+      → ((panel : ℕ) → keeps panel ≡ false → neverSetBack panel (ranWhere keeps calls) ≡ true)
+      → Lawful (ranWhere keeps calls) → LogsInOrder (ranWhere keeps calls)
 
 -- The code keeps the demands.
 pub demands : {M : Type 1} → Demands M
@@ -130,4 +135,5 @@ demands =
       floor-meaning = λ list follows lawful. floor-meaning (farm list) lawful (follows-promised list follows);
       floor-idle = λ list follows lawful. floor-idle (farm list) lawful (follows-promised list follows);
       no-floor-needed = no-floor-needed;
+      some-without-floor = some-without-floor;
     }

@@ -2,4 +2,6 @@
 pub mod Floors
 pub mod TwoFloors
 pub mod NoFloor
+pub mod SameWords
+pub mod SomeWithout
 pub mod Shams

@@ -1,15 +1,16 @@
 -- Document 02, W-207: what is shown of the floor and of set-back calls beside demand 3 (`floor-counted`, `floor-meaning`, `floor-idle` and
--- `setting-back` in proofs/Floors.antt, `no-floor-needed` in proofs/NoFloor.antt).
+-- `setting-back` in proofs/Floors.antt, `no-floor-needed` in proofs/NoFloor.antt, `some-without-floor` in proofs/SomeWithout.antt).
 use Prim.Native.Nat.{ℕ, min, max, _≤_, _<_}
 use mathlib.Core.Path.{_≡_}
 use mathlib.Core.Logic.{_⊎_, _↔_}
-use mathlib.Core.Bool.{Bool, true, false, not, _&&_}
+use mathlib.Core.Bool.{Bool, true, false, cond, not, _&&_}
 use mathlib.Core.List.{List, [], _∷_}
-use Rattle.rules.specs.Panel.{Name, Panel}
+use Rattle.rules.specs.Panel.{Name, Make, Panel}
 use Rattle.rules.specs.Calls.{withTime}
 use Rattle.rules.specs.Results.{Call, send, receive, clock, setBack, Result, defined}
-use Rattle.rules.specs.Lists.{_isIn_, Made, on, logAt, timeAt, sends, Before}
+use Rattle.rules.specs.Lists.{_isIn_, Made, on, givenTo, logAt, timeAt, sends, Before}
 use Rattle.rules.specs.Lapsing.{floorAt, LapsedAt}
+use Rattle.rules.specs.Demand3.{ExactlyWhen, NoneTwice, NoneAhead}
 use Rattle.rules.specs.Cases.{withFloor}
 
 -- ---- at any panel
@@ -45,7 +46,7 @@ neverSetBack panel [] = true
 neverSetBack panel (made ∷ earlier) = not (on panel made && isSetBack (made .call)) && neverSetBack panel earlier
 
 -- Where no set-back call was made, the floor decides nothing: a message has lapsed there exactly if its deadline is below the time, as in document
--- 01. (So panels without a floor, which can't be set back, do as those of the list. No message has deadline 0.)
+-- 01. (No message has deadline 0.)
 abbrev pub Idle : List Made → ℕ → Type 0
 Idle list panel = (n : Name) → 0 < n .deadline → LapsedAt panel list n ↔ (n .deadline < timeAt panel list)
 
@@ -56,8 +57,7 @@ abbrev pub IdleFloor : ℕ → ℕ → Type 0
 IdleFloor floor time = floor < max time 1
 
 -- Two results that differ in nothing but the floor of the record, and both floors decide nothing. (So it is with every call but a set-back call,
--- at two records of which that holds: `no-floor-needed`. So a panel that keeps no floor, which is one of floor 0 at each call, does the same as
--- one with a floor, as long as neither is set back.)
+-- at two records of which that holds: `no-floor-needed`.)
 pub record AlikeButFloor (one other : Result) : Type 0 where
   pub number : other .number ≡ one .number
   pub panel : other .panel ≡ withFloor (other .panel .floor) (one .panel)
@@ -67,3 +67,23 @@ pub record AlikeButFloor (one other : Result) : Type 0 where
   pub buffer : other .buffer ≡ one .buffer
   pub idle : IdleFloor (one .panel .floor) (one .panel .time)
   pub idle-too : IdleFloor (other .panel .floor) (other .panel .time)
+
+-- ---- a farm in which some panels keep no floor, as those of versions before it, and are never set back
+
+-- the record that a panel works on: where it keeps no floor, one of floor 0 at each call
+abbrev pub keptBy : Bool → Panel → Panel
+keptBy keeps p = cond keeps p (withFloor 0 p)
+
+-- The list that comes of these calls, as `ran` has it, where `keeps` says of each panel whether it keeps a floor.
+abbrev pub ranWhere : (ℕ → Bool) → List (ℕ × Make × Call) → List Made
+ranWhere keeps [] = []
+ranWhere keeps ((panel, make, call) ∷ earlier) =
+    let made = ranWhere keeps earlier in
+    record { at = panel; make = make; call = call; result = defined (keptBy (keeps panel) (givenTo panel make made)) call } ∷ made
+
+-- What demand 3 says of the logs. The floor in its words is counted from the list, also at panels that keep none. (So it is with every list of
+-- which `Lawful` holds, and in which no panel that keeps none is set back: `some-without-floor`.)
+pub record LogsInOrder (list : List Made) : Type 0 where
+  pub exactly-when : ExactlyWhen list
+  pub none-twice : NoneTwice list
+  pub none-ahead : NoneAhead list

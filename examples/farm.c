@@ -323,13 +323,14 @@ static Parcel wrong_year(Member *wrong, Member *one, Member *other)
 }
 
 /*
- * The clock of a panel is ahead, so that a note is handed without the beacon that it names. Then it
- * is set to a wrong year: what waits is dropped, and the panel is deaf. Set back, it still refuses
- * the beacon, by the floor, as that would stand behind the note. Later messages it takes, also the
- * one that it dropped, and hands them in order.
+ * The clock of a panel is ahead, so that a note is handed without the beacon that it names, and
+ * without the two messages that come before the beacon in cause. Then it is set to a wrong year:
+ * what waits is dropped, and the panel is deaf. Set back, it still refuses these two, by the floor,
+ * as they would stand behind the note. Later messages it takes, also the one that it dropped, and
+ * hands them in order.
  */
 static void deaf_panel(Member *deaf, Member *from, const Parcel *beacon, const Parcel *note,
-                       const Parcel *moisture)
+                       const Parcel *moisture, const Cab *cab)
 {
     uint32_t right = deaf->record.time;
 
@@ -340,8 +341,7 @@ static void deaf_panel(Member *deaf, Member *from, const Parcel *beacon, const P
     set_clock(deaf, right + YEAR);
     receive(deaf, moisture);
     set_back(deaf, right);
-    receive(deaf, beacon);
-    say_why(deaf, beacon);
+    receive_bundle(deaf, cab);
     receive(deaf, &load);
     receive(deaf, moisture);
 }
@@ -372,7 +372,7 @@ int main(void)
     trace(&five, &beacon);
 
     Parcel moisture = wrong_year(&three, &five, &nine);
-    deaf_panel(&twelve, &five, &beacon, &note, &moisture);
+    deaf_panel(&twelve, &five, &beacon, &note, &moisture, &cab);
 
     print_log(&three);
     print_log(&five);

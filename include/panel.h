@@ -66,7 +66,8 @@
  * they are as this one: without a set back the floor makes no difference. They can share a farm:
  * each reads the frames of the others, no setting is needed, and the causal order of the logs holds
  * in every mixture. A panel can't go on with the record that an older version left: it has no floor
- * (PANEL_VERSION). (Panels before 0.5 differ in more: they take deadlines far ahead.)
+ * (PANEL_VERSION). Give it a fresh record, with a number that no panel of the farm has had. (Panels
+ * before 0.5 differ in more: they take deadlines far ahead.)
  *
  * Deadlines far ahead. A panel with a wrong year would keep dead notes alive for everybody, so a
  * receive refuses, with 32, a deadline above time + PANEL_FARTHEST_AHEAD.
@@ -83,27 +84,33 @@
  *
  * Setting a clock back. A clock once set to a wrong year leaves a panel deaf: by that year every
  * message has lapsed (21), and panel_clock does not lower the time. panel_set_back does. So that
- * the log keeps the order of cause, the record has a floor: the largest deadline that the log went
- * without. When a message is handed, the floor rises to the largest of its entries that had lapsed
- * and that the mark of the entry's panel had not reached; it never falls. A deadline has lapsed if
- * it is below the time or at most the floor. After a set back:
+ * the log keeps the order of cause, the record has a floor: the largest deadline of a message that
+ * comes before one of the log in cause and is not in the log. When a message is handed, the floor
+ * rises to the largest of its entries that had lapsed and that the mark of the entry's panel had
+ * not reached; it never falls. A deadline has lapsed if it is below the time or at most the floor.
+ * After a set back, of which there may be any number:
  * - A message with a deadline of at most the floor, whatever its source, is still refused with 21:
  *   it may be a cause of one that is in the log.
  * - A message with a deadline above the floor is taken as at any panel of this time, and stands in
  *   order, also if it was refused with 21 or dropped before. So pass the panel its frame again.
- * - If the log went without a message of the wrong year, the floor is of that year, and the panel
- *   stays deaf.
+ * - If the floor is of the wrong year (a message of the log names one of that year that the log
+ *   went without), the panel stays deaf until then.
  * - The deadlines of own sends stay above high. If a message of the wrong year is in the log, they
- *   are far ahead, and the other panels refuse them with 32.
- * - Messages that wait stay, however far ahead they are by the lower time.
+ *   are far ahead, and the other panels refuse them with 32 until their time is near enough; above
+ *   4,294,967,295 the send itself is refused with 24.
+ * - No call lowers floor or high. A panel that they leave deaf or unheard needs a fresh record,
+ *   with a number that no panel of the farm has had.
+ * - Messages that wait stay, and keep their places, however far ahead they are by the lower time.
+ * - What 21 tells a technician: a deadline of at most the floor is never taken here; one above it
+ *   has lapsed by the time alone, and may be received again once a wrong time is set back.
  *
  * Storing a record. It is plain data without pointers. It may be copied, or saved as its
  * sizeof(Panel) bytes and read back by the same version of this header, or by a later one that says
  * so below (PANEL_VERSION). Go on with the record as the last call left it, never with an older
  * copy, which would hand messages again and give out a deadline twice: so save it, and the log
  * records, before the frame is passed on. A record that is broken, as the words of 26 say, is
- * refused with that number by each of the five calls that change it. Other damage, as in the time
- * or the floor, they can't see: keep a checksum beside the record.
+ * refused with that number by send, beacon, receive, clock and set back, and a trace answers it.
+ * Other damage, as in the time or the floor, they can't see: keep a checksum beside the record.
  *
  * Processor. The archive is for x86-64 with the System V calling convention, as on 64-bit Linux,
  * and for no other: the compiler that comes with the proofs makes code for that one only. The
@@ -221,15 +228,16 @@ static inline const char *panel_number_text(PanelNumber number);
 /* Any field may be read; only the calls change it. Times and deadlines are whole seconds. */
 typedef struct Panel {
     uint8_t own;                      /* own number */
-    uint32_t time;                    /* the last clock reading that was accepted, or the lower one
-                                         of a set back; at first 0 */
+    uint32_t time;                    /* the last clock reading that was accepted, or the lower
+                                         reading of a set back since; at first 0 */
     uint32_t high;                    /* the largest deadline in the log, or 0 */
     size_t count;                     /* how many messages are waiting */
     uint32_t marks[PANEL_PANELS];     /* the largest deadline in the log from each source, or 0 */
     uint32_t barrier[PANEL_PANELS];   /* the entries that the next frame carries, or 0 */
     uint8_t slots[PANEL_SLOTS_BYTES]; /* the frames of the waiting messages, in the order taken;
                                          what stands behind them is no part of the record */
-    uint32_t floor;                   /* the largest deadline that the log went without, or 0 */
+    uint32_t floor;                   /* the largest deadline of a message before one of the log
+                                         in cause and not in it, or 0 */
 } Panel;
 
 /*
@@ -283,8 +291,8 @@ static inline PanelAnswer panel_beacon(Panel *panel, const uint8_t *payload, siz
  * Then the panel settles: `count` log records, 0 to 33, stand one after another from the start of
  * the output, and the bytes behind them keep their content.
  * Refused with the first of 26, 10, 1 to 8 as by panel_frame_check, 20, 21, 32, 22, 23 that
- * applies. A frame that was refused with 32 may be received again when the time is nearer, one that
- * was refused with 21 after a set back.
+ * applies. A frame that was refused with 32 may be received again when the time is nearer. One that
+ * was refused with 21 may be received again after a set back, if its deadline is above the floor.
  */
 PANEL_ANSWER PANEL_NOT_NULL
 static inline PanelAnswer panel_receive(Panel *panel, const uint8_t *frame, size_t frame_length,

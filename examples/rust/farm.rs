@@ -268,16 +268,18 @@ fn wrong_year(wrong: &mut Member, one: &mut Member, other: &mut Member) -> Resul
     Ok(moisture)
 }
 
-/// The clock of a panel is ahead, so that a note is handed without the beacon that it names. Then
-/// it is set to a wrong year: what waits is dropped, and the panel is deaf. Set back, it still
-/// refuses the beacon, by the floor, as that would stand behind the note. Later messages it takes,
-/// also the one that it dropped, and hands them in order.
+/// The clock of a panel is ahead, so that a note is handed without the beacon that it names, and
+/// without the two messages that come before the beacon in cause. Then it is set to a wrong year:
+/// what waits is dropped, and the panel is deaf. Set back, it still refuses these two, by the
+/// floor, as they would stand behind the note. Later messages it takes, also the one that it
+/// dropped, and hands them in order.
 fn deaf_panel(
     deaf: &mut Member,
     from: &mut Member,
     beacon: &Parcel,
     note: &Parcel,
     moisture: &Parcel,
+    bundle: &[u8],
 ) -> Result<(), Refusal> {
     let right = deaf.panel.time();
     deaf.receive(note);
@@ -287,8 +289,7 @@ fn deaf_panel(
     deaf.set_clock(right + YEAR)?;
     deaf.receive(moisture);
     deaf.set_back(right)?;
-    deaf.receive(beacon);
-    deaf.say_why(beacon);
+    deaf.receive_bundle(bundle);
     deaf.receive(&load);
     deaf.receive(moisture);
     Ok(())
@@ -316,7 +317,7 @@ fn story() -> Result<(), Refusal> {
     five.trace(&beacon);
 
     let moisture = wrong_year(&mut three, &mut five, &mut nine)?;
-    deaf_panel(&mut twelve, &mut five, &beacon, &note, &moisture)?;
+    deaf_panel(&mut twelve, &mut five, &beacon, &note, &moisture, &bundle)?;
 
     three.print_log();
     five.print_log();

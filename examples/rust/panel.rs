@@ -594,7 +594,7 @@ impl Panel {
     /// Receives the bytes of a frame, whole or damaged. A deadline above the time and
     /// `FARTHEST_AHEAD` is refused with `Refusal::TooFarAhead`. Such a frame may be received again,
     /// and is taken once the time is near enough. One that was refused with `Refusal::Lapsed` may
-    /// be received again after a set back.
+    /// be received again after a set back, if its deadline is above the floor.
     pub fn receive(&mut self, frame: &[u8]) -> Result<Log, Refusal> {
         let mut log = Log::new();
         // SAFETY: the frame is a slice, the output an array of this function; both are passed with
@@ -700,13 +700,14 @@ impl Panel {
         self.own
     }
 
-    /// The last clock reading that was accepted, or the lower one of a set back; at first 0.
+    /// The last clock reading that was accepted, or the lower reading of a set back since; at first
+    /// 0.
     pub fn time(&self) -> u32 {
         self.time
     }
 
-    /// The largest deadline that the log went without, or 0. A deadline has lapsed if it is below
-    /// the time or at most the floor.
+    /// The largest deadline of a message that comes before one of the log in cause and is not in it,
+    /// or 0. A deadline has lapsed if it is below the time or at most the floor.
     pub fn floor(&self) -> u32 {
         self.floor
     }

@@ -930,8 +930,8 @@ static void old_and_new(const char *note_2)
     }
 }
 
-/* Panel 3 with the entries that a panel of the old make has after the first two notes: that which the
-   second did not remove goes into the next frame. */
+/* Panel 3 with the entries that a panel of the old make has after the first two notes: that which
+   the second did not remove goes into the next frame. */
 static const Record of_old_make = {
     .high = 200, .marks = {{0, 100}, {1, 200}}, .barrier = {{0, 100}, {1, 200}}};
 

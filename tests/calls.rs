@@ -165,6 +165,23 @@ fn set_backs() -> Result<(), Refusal> {
     Ok(())
 }
 
+/// A receive raises the floor, and so do a send and a beacon that settle a message.
+fn floor_rises() -> Result<(), Refusal> {
+    let mut two = Panel::fresh(2)?;
+    two.clock(160)?;
+    assert_eq!(two.receive(&frame(7, 500, 1 << 8, &[120]))?.len(), 1);
+    assert_eq!(two.floor(), 120);
+    let after_send = frame(9, 2000, 1 << 2 | 1 << 10, &[1160, 130]);
+    assert!(two.receive(&after_send)?.is_empty());
+    assert_eq!(two.send(b"", 1000)?.1.len(), 2);
+    assert_eq!(two.floor(), 130);
+    let after_beacon = frame(11, 3000, 1 << 2 | 1 << 12, &[2001, 140]);
+    assert!(two.receive(&after_beacon)?.is_empty());
+    assert_eq!(two.beacon(b"")?.1.len(), 2);
+    assert_eq!(two.floor(), 140);
+    Ok(())
+}
+
 /// Panels 0 to 3 of a busy yard: each takes the notes before it and sends one, which names the last
 /// of them alone. The last stays the same where the third comes from an old panel, and first.
 fn shorter_barriers() -> Result<(), Refusal> {
@@ -273,6 +290,7 @@ fn main() -> Result<(), Refusal> {
     refusals()?;
     far_ahead()?;
     set_backs()?;
+    floor_rises()?;
     shorter_barriers()?;
     full_list()?;
     traces()?;

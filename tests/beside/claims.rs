@@ -69,7 +69,7 @@ impl Claims {
         let at = &mut self.panels[panel];
         let floor = at.floor;
         match (call, answer.number) {
-            (Call::Receive { bytes, .. }, 21) => return at.refused(number_of(&bytes[6..10])),
+            (Call::Receive { bytes, .. }, 21) => return at.refused(name_of(bytes)),
             (_, 1..) => return,
             (Call::Send { .. } | Call::Beacon { .. }, 0) => {
                 self.sent(panel, &frame[..answer.length.min(frame.len())])
@@ -123,9 +123,7 @@ impl Claims {
     pub fn check(&self) -> Result<Spoken, (String, usize)> {
         let mut spoken = Spoken::default();
         for (place, at) in self.panels.iter().enumerate() {
-            let checked = check_floor(at)
-                .and_then(|()| self.check_order(at))
-                .and_then(|()| self.check_standing(at));
+            let checked = self.check_order(at).and_then(|()| self.check_standing(at));
             spoken.add(checked.map_err(|what| (what, place))?);
         }
         Ok(spoken)
@@ -198,16 +196,10 @@ impl Claims {
     }
 }
 
-/// Where the time was never lowered, whatever is at most the floor is below the time: the floor
-/// decides nothing.
-fn check_floor(at: &At) -> Result<(), String> {
-    match at.was_set_back || at.floor == 0 || at.floor < at.time {
-        true => Ok(()),
-        false => Err(format!(
-            "floor {} at time {}, though the clock was never set back",
-            at.floor, at.time
-        )),
-    }
+/// The source and the deadline in a frame, if it is long enough to have them.
+fn name_of(frame: &[u8]) -> Option<(u8, u32)> {
+    let (source, deadline) = (frame.get(5)?, frame.get(6..10)?);
+    Some((*source, number_of(deadline)))
 }
 
 /// The entries of a frame: the panels of its mask, lowest first, each with its entry.

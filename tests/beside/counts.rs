@@ -134,8 +134,8 @@ impl Counts {
         wrong
     }
 
-    /// What no trace ever answered: ready or not, with so many visits. Not ready without a visit are
-    /// bytes that read as no message.
+    /// What no trace ever answered: ready or not, with so many visits. Not ready without a visit
+    /// are bytes that read as no message.
     fn missing_tests(&self) -> Vec<String> {
         let mut missing = Vec::new();
         for (ready, counts) in [false, true].iter().zip(&self.tests) {

@@ -33,7 +33,7 @@ impl<'side, S: Side> Farm<'side, S> {
         for (number, kind) in numbers.into_iter().zip(plan.kinds(&mut random)) {
             let panel = side.fresh(number, kind)?;
             let clock = plan.clocks.first_reading(&mut random);
-            members.push(Member::new(panel, number, kind.make, clock));
+            members.push(Member::new(panel, number, kind, clock));
         }
         let claims = Claims::new(members.len());
         Ok(Farm {
@@ -57,6 +57,7 @@ impl<'side, S: Side> Farm<'side, S> {
         let answer = self.side.call(&mut member.panel, call)?;
         self.done.calls += 1;
         self.done.old_calls += u64::from(member.make == Make::Old);
+        self.done.no_floor_calls += u64::from(!member.keeps_floor);
         if self.plan.lawful {
             let (output, frame) = (self.side.output(), self.side.frame());
             self.claims.after(place, call, answer, output, frame);
@@ -119,7 +120,11 @@ impl<'side, S: Side> Farm<'side, S> {
     fn against_demand_3(&self, place: usize, what: &str) -> Found {
         let member = &self.members[place];
         let (number, make) = (member.number, member.make);
-        let what = format!("demand 3, panel {number} of the make {make:?}: {what}");
+        let kind = match member.keeps_floor {
+            true => format!("{make:?}"),
+            false => format!("{make:?}, without a floor"),
+        };
+        let what = format!("demand 3, panel {number} of the make {kind}: {what}");
         Found::new(what).with(self.side.script(&member.panel))
     }
 

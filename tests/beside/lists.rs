@@ -26,8 +26,9 @@ pub struct Done {
     pub sent_far_ahead: u64,
     /// Messages taken that had been refused there as far ahead.
     pub taken_later: u64,
-    /// Calls on panels of the old make.
+    /// Calls on panels of the old make, and on those that keep no floor.
     pub old_calls: u64,
+    pub no_floor_calls: u64,
     /// How often a panel was brought to the other make.
     pub brought: u64,
     /// Messages of panels of the old make that one of the new make took.
@@ -47,6 +48,7 @@ impl Done {
         self.sent_far_ahead += more.sent_far_ahead;
         self.taken_later += more.taken_later;
         self.old_calls += more.old_calls;
+        self.no_floor_calls += more.no_floor_calls;
         self.brought += more.brought;
         self.new_took_old += more.new_took_old;
         self.old_took_new += more.old_took_new;
@@ -128,7 +130,7 @@ impl<S: Side> Farm<'_, S> {
                 let back = random.any_size().min(time);
                 Call::clock(time - back.min(random.pick(&[0, 1, u32::MAX])))
             }
-            2 => Call::set_back(self.plan.odd_set_back(time, random)),
+            2 => self.members[place].set_back(self.plan.odd_set_back(time, random)),
             _ if self.frames.is_empty() => {
                 let length = random.below(40);
                 Call::receive(&random.bytes(length))

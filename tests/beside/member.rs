@@ -1,13 +1,16 @@
 //! The panels of a farm, each with what it needs to take part in a list.
 
 use crate::bits::Bits;
+use crate::calls::Call;
 use crate::second::{Make, FARTHEST_AHEAD};
+use crate::side::Kind;
 
 /// A panel of the farm, with its clock and the frames that it can pass on.
 pub struct Member<Panel> {
     pub panel: Panel,
     pub number: u8,
     pub make: Make,
+    pub keeps_floor: bool,
     pub time: u32,
     /// What the panel's clock shows. It may go another way than that of other panels.
     pub clock: u32,
@@ -20,11 +23,12 @@ pub struct Member<Panel> {
 }
 
 impl<Panel> Member<Panel> {
-    pub fn new(panel: Panel, number: u8, make: Make, clock: u32) -> Self {
+    pub fn new(panel: Panel, number: u8, kind: Kind, clock: u32) -> Self {
         Member {
             panel,
             number,
-            make,
+            make: kind.make,
+            keeps_floor: kind.keeps_floor,
             time: 0,
             clock,
             right: None,
@@ -42,6 +46,15 @@ impl<Panel> Member<Panel> {
         if !self.holds.has(frame) {
             self.holds.insert(frame);
             self.held.push(frame);
+        }
+    }
+
+    /// A set back to a reading. A panel that keeps no floor has no such call: in its place comes a
+    /// clock call that is refused, or leaves the time.
+    pub fn set_back(&self, reading: u32) -> Call {
+        match self.keeps_floor {
+            true => Call::set_back(reading),
+            false => Call::clock(reading.min(self.time)),
         }
     }
 

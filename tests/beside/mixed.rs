@@ -1,5 +1,5 @@
 //! Panels of both makes: those of the new make in both implementations, which are compared, and
-//! those of the old make in the second alone.
+//! those of the old make in the second alone. Those that keep no floor are in the second alone too.
 
 use crate::calls::Call;
 use crate::compare::{Both, Pair};
@@ -12,16 +12,16 @@ use crate::side::{Alone, Found, Kind, Side};
 
 /// A panel as it is now.
 enum Now {
-    Old(second::Panel),
-    New(Pair),
+    Alone(second::Panel),
+    Both(Pair),
 }
 
 impl Now {
     /// The record in plain form.
     fn record(&self) -> Kept {
         match self {
-            Now::Old(panel) => Kept::of(panel),
-            Now::New(pair) => pair.kept(),
+            Now::Alone(panel) => Kept::of(panel),
+            Now::Both(pair) => pair.kept(),
         }
     }
 }
@@ -35,8 +35,8 @@ impl Panel {
     /// The 64 barrier entries.
     pub fn barrier(&self) -> [u32; 64] {
         match &self.now {
-            Now::Old(panel) => panel.barrier_entries(),
-            Now::New(pair) => pair.module.barrier,
+            Now::Alone(panel) => panel.barrier_entries(),
+            Now::Both(pair) => pair.module.barrier,
         }
     }
 }
@@ -44,8 +44,8 @@ impl Panel {
 pub struct Mixed<'both> {
     both: &'both mut Both,
     alone: Alone,
-    /// The make of the panel that the last call was made on.
-    last: Make,
+    /// The last call was made on the second implementation alone.
+    last_alone: bool,
     /// Whether all but the claims is left out: shadows, and the floors of the records.
     claims_alone: bool,
 }
@@ -55,7 +55,7 @@ impl<'both> Mixed<'both> {
         Mixed {
             both,
             alone: Alone::new(Random::new(seed, 1)),
-            last: Make::New,
+            last_alone: false,
             claims_alone: false,
         }
     }
@@ -74,8 +74,8 @@ impl<'both> Mixed<'both> {
     /// A panel of this make with a kept record.
     fn now(&mut self, kept: &Kept, make: Make) -> Now {
         match make {
-            Make::Old => Now::Old(second::Panel::kept(kept, make)),
-            Make::New => Now::New(self.both.kept(kept)),
+            Make::Old => Now::Alone(second::Panel::kept(kept, make)),
+            Make::New => Now::Both(self.both.kept(kept)),
         }
     }
 
@@ -116,64 +116,62 @@ impl Side for Mixed<'_> {
 
     fn fresh(&mut self, number: u8, kind: Kind) -> Result<Panel, Found> {
         let now = match kind.make {
-            Make::Old => Now::Old(self.alone.fresh(number, kind)?),
-            Make::New => Now::New(self.both.fresh(number)?),
+            Make::New if kind.keeps_floor => Now::Both(self.both.fresh(number)?),
+            _ => Now::Alone(self.alone.fresh(number, kind)?),
         };
         let rule = kind.shadow.filter(|_| !self.claims_alone);
         let shadow = rule.map(|rule| Shadow::new(number, rule));
         Ok(Panel { now, shadow })
     }
 
-    /// The panel keeps its shadow.
+    /// The panel keeps its shadow. One that keeps no floor goes on without.
     fn bring(&mut self, panel: &mut Panel, make: Make) {
-        panel.now = self.now(&panel.now.record(), make);
+        match &mut panel.now {
+            Now::Alone(alone) if !alone.keeps_floor => self.alone.bring(alone, make),
+            now => *now = self.now(&now.record(), make),
+        }
         if let Some(shadow) = &mut panel.shadow {
             shadow.brought = true;
         }
     }
 
     fn call(&mut self, panel: &mut Panel, call: &Call) -> Result<Answer, Found> {
+        self.last_alone = matches!(panel.now, Now::Alone(_));
         let answer = match &mut panel.now {
-            Now::Old(panel) => {
-                self.last = Make::Old;
-                self.alone.call(panel, call)?
-            }
-            Now::New(pair) => {
-                self.last = Make::New;
-                self.both.call(pair, call)?
-            }
+            Now::Alone(panel) => self.alone.call(panel, call)?,
+            Now::Both(pair) => self.both.call(pair, call)?,
         };
         self.follow(panel, call, answer)?;
         Ok(answer)
     }
 
     fn output(&self) -> &[u8] {
-        match self.last {
-            Make::Old => self.alone.output(),
-            Make::New => self.both.output(),
+        match self.last_alone {
+            true => self.alone.output(),
+            false => self.both.output(),
         }
     }
 
     fn frame(&self) -> &[u8] {
-        match self.last {
-            Make::Old => self.alone.frame(),
-            Make::New => self.both.frame(),
+        match self.last_alone {
+            true => self.alone.frame(),
+            false => self.both.frame(),
         }
     }
 
     fn floor(&self, panel: &Panel) -> Option<u32> {
         match &panel.now {
             _ if self.claims_alone => None,
-            Now::Old(panel) => Some(panel.floor),
-            Now::New(pair) => Some(pair.module.floor),
+            Now::Alone(panel) => panel.keeps_floor.then_some(panel.floor),
+            Now::Both(pair) => Some(pair.module.floor),
         }
     }
 
-    /// Those of a panel of the old make are not kept.
+    /// Those of a panel that is in the second implementation alone are not kept.
     fn script(&self, panel: &Panel) -> Option<Script> {
         match &panel.now {
-            Now::Old(_) => None,
-            Now::New(pair) => self.both.script(pair),
+            Now::Alone(_) => None,
+            Now::Both(pair) => self.both.script(pair),
         }
     }
 }

@@ -113,6 +113,8 @@ pub struct Plan {
     pub makes: Makes,
     /// How many steps in a hundred begin with a panel that is brought to the other make.
     pub brought: usize,
+    /// How many panels in a hundred keep no floor.
+    pub no_floor: usize,
     /// The panels that are of the new make, or may come to be, have shadows.
     pub shadows: bool,
     pub calls: u64,
@@ -171,6 +173,7 @@ impl Plan {
             panels: panels(random),
             makes: random.pick(&[AllNew, AllNew, AllNew, OneNew, Half, Makes::Any]),
             brought: random.pick(&[0, 0, 3]),
+            no_floor: random.pick(&[0, 0, 50]),
             shadows: random.chance(20),
             calls: calls(random),
             lawful,
@@ -216,11 +219,17 @@ impl Plan {
         };
         let kind = |make, shadow: bool| Kind {
             make,
+            keeps_floor: true,
             shadow: shadow.then_some(rule),
         };
         let mut kinds = vec![kind(Make::New, self.shadows); new];
         let old = kind(Make::Old, self.shadows && self.brought > 0);
         kinds.resize(self.panels, old);
+        for kind in &mut kinds {
+            if random.chance(self.no_floor) {
+                (kind.keeps_floor, kind.shadow) = (false, None);
+            }
+        }
         random.shuffle(&mut kinds);
         kinds
     }
@@ -237,8 +246,10 @@ impl Plan {
     }
 
     /// A list with forged frames. The claims are not checked there: panels of the old make have a
-    /// part in it only as they are brought to the new make, beside their shadows.
+    /// part in it only as they are brought to the new make, beside their shadows, and panels that
+    /// keep no floor have none.
     fn forges(&mut self, random: &mut Random) {
+        self.no_floor = 0;
         (self.makes, self.brought) = match random.chance(25) {
             true => (Makes::Half, 3),
             false => (Makes::AllNew, 0),

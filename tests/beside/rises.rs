@@ -1,6 +1,6 @@
-//! What raises the floor, as document 02 has it in W-207: "At handing, the floor rises to the largest
-//! of the message's entries that had lapsed and that the mark of the entry's panel, before this
-//! handing, had not reached."
+//! What raises the floor, as document 02 has it in W-207: "At handing, the floor rises to the
+//! largest of the message's entries that had lapsed and that the mark of the entry's panel, before
+//! this handing, had not reached."
 
 use crate::calls::Call;
 use crate::cases::{hands, refuses, Log};
@@ -20,8 +20,8 @@ pub fn run(both: &mut Both) -> Result<(), Found> {
     by_a_send(both)
 }
 
-/// The floor rises to the largest entry that has lapsed and that its mark has not reached, and never
-/// falls. The barrier is not asked.
+/// The floor rises to the largest entry that has lapsed and that its mark has not reached, and
+/// never falls. The barrier is not asked.
 fn raised_on_arrival(both: &mut Both) -> Result<(), Found> {
     let cases: &[(u32, Entries, u32)] = &[
         (0, &[], 0),
@@ -105,7 +105,8 @@ fn in_a_clock_call(both: &mut Both) -> Result<(), Found> {
     Ok(())
 }
 
-/// A message that waits raises nothing, and neither does one that is refused or dropped, or a trace.
+/// A message that waits raises nothing, and neither does one that is refused or dropped, or a
+/// trace.
 fn not_handed(both: &mut Both) -> Result<(), Found> {
     let mut zero = both.kept(&panel(100, &[(3, 200)]));
     let waits = frame(5, 150, &[(4, 120), (7, 90)], b"");

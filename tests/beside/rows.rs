@@ -132,6 +132,11 @@ pub fn of_lists(done: &Done) -> Rows {
         (done.lists, "lists", false),
         (done.calls, "calls", false),
         (done.old_calls, "calls on panels of the old make", true),
+        (
+            done.no_floor_calls,
+            "calls on panels that keep no floor",
+            true,
+        ),
         (done.brought, "panels brought to the other make", true),
         (
             done.new_took_old,

@@ -10,7 +10,7 @@ use crate::floors::{floored, has, waiting};
 use crate::kept::Kept;
 use crate::mixed::{Mixed, Panel};
 use crate::second::Make;
-use crate::side::{Found, Side};
+use crate::side::{Found, Kind, Side};
 use crate::traces::panel;
 
 pub fn run(both: &mut Both) -> Result<(), Found> {
@@ -23,7 +23,8 @@ pub fn run(both: &mut Both) -> Result<(), Found> {
     missed_for_good(both)?;
     alive_again(both)?;
     far_ahead_again(both)?;
-    both_makes(both)
+    both_makes(both)?;
+    without_a_floor(both)
 }
 
 /// The time becomes the lower of its own and the reading, which is never refused.
@@ -172,8 +173,8 @@ fn missed_for_good(both: &mut Both) -> Result<(), Found> {
     has(both, &two, (502, 501, 0))
 }
 
-/// An entry that had lapsed and is alive again is waited for again, but where the floor has risen to
-/// it meanwhile.
+/// An entry that had lapsed and is alive again is waited for again, but where the floor has risen
+/// to it meanwhile.
 fn alive_again(both: &mut Both) -> Result<(), Found> {
     let four = || Call::receive(&frame(4, 1500, &[], b""));
     let waits = Call::receive(&frame(5, 2000, &[(1, 500), (4, 1500)], b""));
@@ -215,8 +216,8 @@ fn far_ahead_again(both: &mut Both) -> Result<(), Found> {
     hands(both, &mut zero, missing, log).map(|_| ())
 }
 
-/// A panel of the old make has the same floor, and is set back in the same way; with its floor it is
-/// brought to the other make.
+/// A panel of the old make has the same floor, and is set back in the same way; with its floor it
+/// is brought to the other make.
 fn both_makes(both: &mut Both) -> Result<(), Found> {
     let mut mixed = Mixed::new(both, 0);
     let missed = frame(1, 500, &[], b"");
@@ -237,6 +238,34 @@ fn both_makes(both: &mut Both) -> Result<(), Found> {
         answers(&mut mixed, &mut panel, &Call::set_back(0), 0)?;
         answers(&mut mixed, &mut panel, &Call::receive(&missed), 21)?;
         is("the floor at both makes", mixed.floor(&panel) == Some(500))?;
+    }
+    Ok(())
+}
+
+/// A panel that keeps no floor, of either make and brought to the other, can't be set back: what it
+/// missed stays below its time.
+fn without_a_floor(both: &mut Both) -> Result<(), Found> {
+    let mut mixed = Mixed::new(both, 0);
+    let calls = [
+        (Call::clock(1000), 0),
+        (Call::receive(&frame(3, 1100, &[(1, 500)], b"")), 0),
+        (Call::clock(100), 25),
+        (Call::receive(&frame(1, 500, &[], b"")), 21),
+    ];
+    for make in [Make::New, Make::Old] {
+        let kind = Kind {
+            make,
+            keeps_floor: false,
+            shadow: None,
+        };
+        let mut panel = mixed.fresh(2, kind)?;
+        for (call, number) in &calls {
+            answers(&mut mixed, &mut panel, call, *number)?;
+        }
+        mixed.bring(&mut panel, make.other());
+        for (call, number) in &calls[2..] {
+            answers(&mut mixed, &mut panel, call, *number)?;
+        }
     }
     Ok(())
 }

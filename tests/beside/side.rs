@@ -39,10 +39,13 @@ impl Found {
     }
 }
 
-/// What a panel of a list is: its make, and what is checked beside its shadow, if it has one.
+/// What a panel of a list is: its make, whether it keeps a floor, and what is checked beside its
+/// shadow, if it has one. One that keeps no floor is as in versions 0.5 and 0.6: its clock can't be
+/// set back, and it has no shadow.
 #[derive(Clone, Copy)]
 pub struct Kind {
     pub make: Make,
+    pub keeps_floor: bool,
     pub shadow: Option<Rule>,
 }
 
@@ -102,7 +105,9 @@ impl Side for Alone {
     type Panel = second::Panel;
 
     fn fresh(&mut self, number: u8, kind: Kind) -> Result<second::Panel, Found> {
-        Ok(second::fresh(number, kind.make).0)
+        let mut panel = second::fresh(number, kind.make).0;
+        panel.keeps_floor = kind.keeps_floor;
+        Ok(panel)
     }
 
     fn bring(&mut self, panel: &mut second::Panel, make: Make) {

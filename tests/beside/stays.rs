@@ -1,6 +1,6 @@
 //! What is far ahead already, or is sent so. Document 02, W-205: "Messages already waiting or
 //! logged stay. A send may still pass that distance when high forces it, and other panels can take
-//! it once their time is near enough." Most records here are such as a panel has after a set back.
+//! it once their time is near enough." Most records here are such as a set back leaves.
 
 use crate::ahead::{with, DAYS, FAR};
 use crate::calls::Call;

@@ -94,7 +94,8 @@ fn written_out(both: &mut Both) -> Result<(), Found> {
     answers(both, &zero(), &bytes, (0, false, 2))
 }
 
-/// An entry is met that its mark reaches, or that has lapsed (here the floor is 0). Each counts as a visit.
+/// An entry is met that its mark reaches, or that has lapsed (here the floor is 0). Each counts as
+/// a visit.
 fn met_and_not_met(both: &mut Both) -> Result<(), Found> {
     let cases: &[(Entries, Expected)] = &[
         (&[], (0, true, 0)),

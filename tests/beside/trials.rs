@@ -16,8 +16,8 @@ const THREADS: usize = 2;
 /// Calls of lists after which the claims have to have noticed a fault.
 const CLAIM_CALLS: u64 = 300_000;
 
-/// Faults that break demand 3 in lists of so many calls, as far as seeds were tried: the claims alone
-/// have to notice them too, without the module.
+/// Faults that break demand 3 in lists of so many calls, as far as seeds were tried: the claims
+/// alone have to notice them too, without the module.
 const BREAK_DEMAND_3: &[Fault] = &[
     Fault::OnePassOverTheList,
     Fault::BarrierEmptiedBeforeFrame,
@@ -72,6 +72,7 @@ const BREAK_DEMAND_3: &[Fault] = &[
     Fault::FloorItselfAlive,
     Fault::OneAboveFloorLapsed,
     Fault::LapsedByBoth,
+    Fault::FloorForEachSource,
     Fault::FloorNeverRises,
     Fault::ReachedRaisesFloor,
     Fault::EqualToMarkRaisesFloor,
@@ -98,6 +99,8 @@ const BREAK_DEMAND_3: &[Fault] = &[
     Fault::SetBackLowersFloor,
     Fault::SetBackRaisesFloor,
     Fault::SetBackForgetsMarks,
+    Fault::SetBackWithoutFloor,
+    Fault::TakenAgainHeldBack,
     Fault::FloorEntriesStripped,
     Fault::WaitingCopyTaken,
     Fault::LoggedCopyTaken,

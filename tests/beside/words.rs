@@ -51,8 +51,6 @@ impl Floors {
 pub struct At {
     pub time: u32,
     pub floor: u32,
-    /// A set back has lowered the time.
-    pub was_set_back: bool,
     /// The panel's log, and the set of its messages.
     pub log: Vec<usize>,
     pub logged: Bits,
@@ -79,9 +77,11 @@ impl At {
         self.last.get(&panel).is_some_and(|last| *last >= entry)
     }
 
-    /// A message was refused with 21.
-    pub fn refused(&mut self, deadline: u32) {
-        self.floors.refused += u64::from(deadline >= self.time);
+    /// A message of this name was refused with 21: by the floor alone, if its deadline is not below
+    /// the time, and the log has not reached it.
+    pub fn refused(&mut self, name: Option<(u8, u32)>) {
+        let by_floor = name.filter(|name| name.1 >= self.time && !self.reached(*name));
+        self.floors.refused += u64::from(by_floor.is_some());
     }
 
     pub fn take(&mut self, number: usize) {
@@ -112,7 +112,6 @@ impl At {
             true => self.floors.lowered += 1,
             false => self.floors.left += 1,
         }
-        self.was_set_back |= reading < self.time;
         self.time = self.time.min(reading);
     }
 

@@ -5,7 +5,7 @@ use crate::compose;
 use crate::member::Member;
 use crate::random::Random;
 use crate::second::{self, Answer, Make, DEFAULT_LIFETIME, FRAME, LOG_RECORD, OUTPUT};
-use crate::side::Found;
+use crate::side::{Found, Kind};
 use std::fmt::Write;
 use std::thread;
 
@@ -69,8 +69,12 @@ impl Yard {
     /// A yard in which all this has been done.
     fn run(makes: fn(u8) -> Make, panels: u8, events: &[Event]) -> Result<Yard, Found> {
         let member = |number| {
-            let make = makes(number);
-            Member::new(second::fresh(number, make).0, number, make, 0)
+            let kind = Kind {
+                make: makes(number),
+                keeps_floor: true,
+                shadow: None,
+            };
+            Member::new(second::fresh(number, kind.make).0, number, kind, 0)
         };
         let mut yard = Yard {
             members: (0..panels).map(member).collect(),

@@ -14,7 +14,7 @@ impl<S: Side> Farm<'_, S> {
             return self.put_right(place, right);
         }
         let right = self.members[place].clock.max(self.members[place].time);
-        let reading = self.wrong_reading(right);
+        let reading = self.wrong_reading(place, right);
         (self.members[place].right, self.members[place].clock) = (Some(right), reading);
         let call = self.lent(Call::clock(reading));
         self.call(place, &call)?;
@@ -31,10 +31,10 @@ impl<S: Side> Farm<'_, S> {
     }
 
     /// A recent deadline or the second after it, some seconds more than the right reading, or any
-    /// time to come.
-    fn wrong_reading(&mut self, right: u32) -> u32 {
+    /// time to come, but at a panel that keeps no floor, which would stay deaf.
+    fn wrong_reading(&mut self, place: usize, right: u32) -> u32 {
         let more = match self.random.below(8) {
-            0 => self.random.any_size(),
+            0 if self.members[place].keeps_floor => self.random.any_size(),
             1 | 2 => self.random.between(1, 40) as u32,
             _ => self.recent_edge().saturating_sub(right),
         };
@@ -53,8 +53,8 @@ impl<S: Side> Farm<'_, S> {
         deadline.saturating_add(self.random.below(2) as u32)
     }
 
-    /// A clock is set back to about what it should show. Then frames come that are alive now, those
-    /// again too that were refused or dropped meanwhile.
+    /// A clock is set back to about what it should show, if its panel keeps a floor. Then frames
+    /// come that are alive now, those again too that were refused or dropped meanwhile.
     fn put_right(&mut self, place: usize, right: u32) -> Result<(), Found> {
         let reading = match self.random.below(20) {
             0 => 0,
@@ -62,7 +62,8 @@ impl<S: Side> Farm<'_, S> {
             2..=4 => self.recent_edge(),
             _ => right.saturating_add(self.random.below(3) as u32),
         };
-        self.call(place, &Call::set_back(reading))?;
+        let call = self.members[place].set_back(reading);
+        self.call(place, &call)?;
         let member = &mut self.members[place];
         (member.right, member.clock) = (None, member.time);
         self.come_again(place)?;

@@ -67,8 +67,8 @@ impl Record {
     }
 
     /// A kept record. All bytes that are no part of it are random, but for a readable frame behind
-    /// the last slot, of which the floor may be the start: a module that goes on reading there is to
-    /// be noticed.
+    /// the last slot, of which the floor may be the start: a module that goes on reading there is
+    /// to be noticed.
     pub fn kept(kept: &Kept, random: &mut Random) -> Box<Record> {
         let mut record = Record::random(random);
         let one_more = compose::frame(1, 9, &[], b"");

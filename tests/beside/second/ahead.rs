@@ -74,8 +74,9 @@ impl Panel {
 
     /// Whether a planted fault keeps a ready message from being handed.
     pub fn wrongly_held_back(&self, message: &Message) -> bool {
-        let held_back = planted(Fault::FarAheadWaits) || planted(Fault::FarAheadNeverHanded);
-        held_back && self.far_ahead(message.deadline)
+        let far = planted(Fault::FarAheadWaits) || planted(Fault::FarAheadNeverHanded);
+        far && self.far_ahead(message.deadline)
+            || planted(Fault::TakenAgainHeldBack) && self.was_turned_down(message)
     }
 
     /// What planted faults change by a refusal with 32.
@@ -95,6 +96,11 @@ impl Panel {
     /// Whether a message was refused with 32, or dropped, with a planted fault that never takes it
     /// then.
     pub fn wrongly_had(&self, message: &Message) -> bool {
+        self.was_turned_down(message) && !planted(Fault::TakenAgainHeldBack)
+    }
+
+    /// Whether a message was refused with 32, or dropped, with a planted fault that asks for it.
+    fn was_turned_down(&self, message: &Message) -> bool {
         self.turned_down
             .contains(&(message.source, message.deadline))
     }

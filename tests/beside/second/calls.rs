@@ -66,6 +66,7 @@ impl Panel {
         let back = match which() {
             Some(Fault::SameReadingRefused) => reading <= self.time,
             Some(Fault::ClockGoesBack) => false,
+            Some(Fault::SetBackWithoutFloor) => reading < self.time && self.keeps_floor,
             _ => reading < self.time,
         };
         match first([(26, self.broken()), (10, short(output)), (25, back)]) {
@@ -133,7 +134,8 @@ impl Panel {
 
     /// Why a readable message is turned down because of the state: the checks, in their order.
     pub fn state_checks(&self, message: &Message, ready: bool) -> Checks {
-        let lapsed = self.limits().lapsed(Of::Received, message.deadline);
+        let limits = self.limits_for(message.source);
+        let lapsed = limits.lapsed(Of::Received, message.deadline);
         let full = self.pending.len() + self.lost_places >= WAITING
             || planted(Fault::FullWithPlacesFree)
             || planted(Fault::FullWithThirtyOne) && self.pending.len() + 1 == WAITING;
@@ -182,7 +184,7 @@ impl Panel {
                 Some(Fault::DroppedIsHanded) => self.perform_delivery(message, log),
                 Some(Fault::DroppedRemoves) => self.remove_carried(message),
                 Some(Fault::DroppedRaisesFloor) => self.floor = self.floor.max(message.deadline),
-                Some(Fault::DroppedNeverTaken) => {
+                Some(Fault::DroppedNeverTaken | Fault::TakenAgainHeldBack) => {
                     self.turned_down.push((message.source, message.deadline))
                 }
                 _ => {}

@@ -175,6 +175,7 @@ declare! {
     FloorPlusOneWraps: "a deadline below floor + 1 has lapsed, in 32 bits",
     FloorWithASign: "deadline and floor are compared as signed numbers of 32 bits",
     LapsedByBoth: "lapsed means below the time and at most the floor",
+    FloorForEachSource: "21 asks for the largest entry missed of the source, not for the floor",
     // What raises the floor.
     FloorNeverRises: "the floor stays what it is",
     ReachedRaisesFloor: "a lapsed entry raises the floor though the mark had reached it",
@@ -217,7 +218,9 @@ declare! {
     SetBackForgetsMarks: "a set back forgets marks above the reading",
     StruckOffForGood: "an entry that had lapsed before a set back stays met for a waiting message",
     ClockGoesBack: "a clock call with a reading below the time sets it back, without 25",
+    SetBackWithoutFloor: "a panel that keeps no floor is set back, by a clock call",
     DroppedNeverTaken: "a message that a clock call dropped is 22 after a set back",
+    TakenAgainHeldBack: "a message that was dropped and is taken again is never handed",
     // The floor elsewhere.
     FreshFloorOne: "a fresh panel has floor 1",
     FloorAboveTimeIsBroken: "26 for a floor above the time",

@@ -3,6 +3,7 @@
 //! handing, "to the largest of the message's entries that had lapsed and that the mark of the
 //! entry's panel, before this handing, had not reached".
 
+use super::delivery::raise;
 use super::faults::{planted, which, Fault};
 use super::log::Log;
 use super::{accepted, first, refused, Answer, Make, Message, Panel};
@@ -82,6 +83,19 @@ impl Panel {
         }
     }
 
+    /// The same for a message of this source that is received. The source makes a difference to a
+    /// planted fault only.
+    pub fn limits_for(&self, source: u8) -> Limits {
+        let floor = match planted(Fault::FloorForEachSource) {
+            true => self.largest_missed.get(&source).copied().unwrap_or(0),
+            false => self.floor,
+        };
+        Limits {
+            floor,
+            ..self.limits()
+        }
+    }
+
     /// Whether an entry has lapsed.
     pub fn lapsed(&self, entry: u32) -> bool {
         self.limits().lapsed(Of::Entry, entry)
@@ -89,23 +103,28 @@ impl Panel {
 
     /// Raises the floor as a message is handed, before its mark is raised.
     pub fn raise_floor(&mut self, message: &Message) {
-        let entries = message.predecessors.iter();
-        let missed: Vec<u32> = entries
-            .filter(|(panel, entry)| self.missed(**panel, **entry))
-            .map(|(_, entry)| *entry)
-            .collect();
-        let largest = missed.iter().max().copied().unwrap_or(0);
-        if missed.is_empty() || self.floor_wrongly_stays(message) {
+        if !self.keeps_floor {
             return;
         }
+        let mut missed = message.predecessors.clone();
+        missed.retain(|panel, entry| self.missed(*panel, *entry));
         let to = match which() {
-            Some(Fault::SmallestMissed) => missed.iter().min().copied().unwrap_or(0),
-            Some(Fault::FirstMissed) => missed[0],
-            Some(Fault::LastMissed) => missed[missed.len() - 1],
-            Some(Fault::FloorRisesToDeadline) => message.deadline,
-            Some(Fault::FloorRisesToTime) => largest.max(self.time.saturating_sub(1)),
-            _ => largest,
+            Some(Fault::SmallestMissed) => missed.values().min(),
+            Some(Fault::FirstMissed) => missed.values().next(),
+            Some(Fault::LastMissed) => missed.values().next_back(),
+            _ => missed.values().max(),
         };
+        let Some(to) = to.filter(|_| !self.floor_wrongly_stays(message)) else {
+            return;
+        };
+        let to = match which() {
+            Some(Fault::FloorRisesToDeadline) => message.deadline,
+            Some(Fault::FloorRisesToTime) => self.time.saturating_sub(1).max(*to),
+            _ => *to,
+        };
+        for (panel, entry) in missed {
+            raise(&mut self.largest_missed, panel, entry);
+        }
         self.floor = match planted(Fault::FloorOverwritten) {
             true => to,
             false => self.floor.max(to),

@@ -33,6 +33,8 @@ pub struct Panel {
     pub high: u32,
     /// Document 02, W-207: "The record gains a floor, 0 at first."
     pub floor: u32,
+    /// Whether the floor rises. In versions 0.5 and 0.6, which have none, it does not.
+    pub keeps_floor: bool,
     /// The marks; a source without any has no entry.
     pub delivered: Barrier,
     pub barrier: Barrier,
@@ -44,7 +46,7 @@ pub struct Panel {
     unreadable: usize,
     /// Places of the list that are never used again: none, but for a planted fault.
     pub lost_places: usize,
-    /// Messages that are never taken: none, but for a planted fault.
+    /// Messages that are never taken, or never handed: none, but for planted faults.
     pub turned_down: Vec<(u8, u32)>,
     /// The panel settles just now, and in this call: planted faults ask for it.
     pub settling: bool,
@@ -53,6 +55,8 @@ pub struct Panel {
     pub received: Option<Barrier>,
     /// What planted faults write into the next frame of entries that were removed.
     pub left_over: Barrier,
+    /// For each panel the largest entry that was missed: a planted fault asks for it.
+    pub largest_missed: Barrier,
 }
 
 /// A fresh panel of this make, and the number that it is answered with.
@@ -63,6 +67,7 @@ pub fn fresh(number: u8, make: Make) -> (Panel, u8) {
         time: 0,
         high: 0,
         floor: u32::from(planted(Fault::FreshFloorOne)),
+        keeps_floor: true,
         delivered: Barrier::new(),
         barrier: Barrier::new(),
         pending: Vec::new(),
@@ -74,6 +79,7 @@ pub fn fresh(number: u8, make: Make) -> (Panel, u8) {
         during: During::Receive,
         received: None,
         left_over: Barrier::new(),
+        largest_missed: Barrier::new(),
     };
     let last = PANELS - 1 + u8::from(planted(Fault::FreshSixtyFourTaken));
     if number <= last {

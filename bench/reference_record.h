@@ -96,15 +96,13 @@ static inline bool goes_without(const Record *record, int source, uint32_t entry
 static inline void pass_entries(Record *record, const Message *message)
 {
     const uint32_t *entry = message->entries;
-    uint32_t floor = record->floor;
     for (uint64_t rest = message->mask; rest != 0; rest &= rest - 1, entry++) {
         int source = __builtin_ctzll(rest);
         if (record->barrier[source] <= *entry)
             record->barrier[source] = 0;
-        if (goes_without(record, source, *entry))
-            floor = larger(floor, *entry);
+        if (goes_without(record, source, *entry) && record->floor < *entry)
+            record->floor = *entry;
     }
-    record->floor = floor;
 }
 
 /* Puts a message into marks, barrier and high, and writes its log record. */

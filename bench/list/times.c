@@ -124,7 +124,7 @@ static void time_row(Row *row, char **programs)
 
 static void print_row(const Row *row, char **programs)
 {
-    printf("%-37s%8zu%9.2f%9.2f%9.2f", row->name, row->size, row->best[PROVED],
+    printf("%-38s%8zu%9.2f%9.2f%9.2f", row->name, row->size, row->best[PROVED],
            row->best[IN_C], row->best[PROVED] / row->best[IN_C]);
     if (tunables) {
         double proved = count(programs[PROVED], row->file);
@@ -149,9 +149,9 @@ int main(int argc, char **argv)
         for (int i = 0; i < ROWS; i++)
             time_row(&rows[i], programs);
     }
-    printf("%-45s%27s%s\n", "list, a whole process", "ms, best of the rounds",
+    printf("%-46s%27s%s\n", "list, a whole process", "ms, best of the rounds",
            tunables ? "        thousands of instructions" : "");
-    printf("%-37s%8s%9s%9s%9s%s\n", "bundle", "bytes", "proved", "C", "ratio",
+    printf("%-38s%8s%9s%9s%9s%s\n", "bundle", "bytes", "proved", "C", "ratio",
            tunables ? "         proved        C    ratio" : "");
     for (int i = 0; i < ROWS; i++)
         print_row(&rows[i], programs);

@@ -25,7 +25,7 @@ static void refused_rows(void)
     chain(32);
     to_set_back(9);
     now.panel.slots[PANEL_SLOT_BYTES * 31 + 1]++;
-    row("set back refused, 26 by the last of 32", 26, 0);
+    row("set back refused, 26 by the last of 32 waiting", 26, 0);
 }
 
 void set_back_rows(void)

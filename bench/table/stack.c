@@ -97,14 +97,14 @@ void stack_part(void)
     const Deepest *most = &deepest[0][0][PROVED];
 
     each_row(stack_row);
-    printf("%-45s%9s%9s\n", "stack in bytes, deepest row of each call", side_name[PROVED],
+    printf("%-46s%9s%9s\n", "stack in bytes, deepest row of each call", side_name[PROVED],
            side_name[IN_C]);
     for (int kind = 0; kind < KINDS; kind++) {
         for (int refused = 0; refused < 2; refused++) {
             const Deepest *of = deepest[kind][refused];
             if (of[PROVED].label[0] == 0)
                 continue;
-            printf("%-45s%9zu%9zu\n", of[PROVED].label, of[PROVED].bytes, of[IN_C].bytes);
+            printf("%-46s%9zu%9zu\n", of[PROVED].label, of[PROVED].bytes, of[IN_C].bytes);
             if (of[PROVED].bytes > most->bytes)
                 most = &of[PROVED];
         }

@@ -52,7 +52,7 @@ static void print_row(const char *label, const Side sides[SIDES])
 {
     Cost cost = best_times(rows++);
 
-    printf("%-45s", label);
+    printf("%-46s", label);
     print_cost(&cost, 1, &of_times, label);
     if (counting) {
         cost = next_counts(sides);
@@ -66,10 +66,10 @@ static void print_head(int rounds)
     char times[80];
 
     snprintf(times, sizeof times, "ns, best of %d rounds", rounds);
-    printf("%-45s%27s", "", times);
+    printf("%-46s%27s", "", times);
     if (counting)
         printf("%27s", "instructions");
-    printf("\n%-45s", "");
+    printf("\n%-46s", "");
     for (int measure = 0; measure <= counting; measure++)
         printf("%9s%9s%9s", side_name[PROVED], side_name[IN_C], "ratio");
     printf("\n");

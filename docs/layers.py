@@ -19,8 +19,8 @@ ROOT = Path(__file__).resolve().parent.parent
 PICTURE = ROOT / "docs" / "layers.svg"
 WIDTH, MARGIN, GAP = 1520, 24, 14
 CODE, PROMISES, DEFINITIONS, PROOF = "#123a63", "#7c9cc0", "#d08a1d", "#c9cdd2"
-GROUPS = {"theory": ("Theory: no code", "#fbf3df"), "module": ("The module", "#e3edf7"),
-          "tests": ("Test programs", "#f2f2f2")}
+GROUPS = {"theory": ("Theory: no code", "#fbf3df", 1), "module": ("The module", "#e3edf7", 5),
+          "tests": ("Test programs", "#f2f2f2", 2)}  # the last: how many boxes have room side by side
 OUTSIDE = "not proved: radio, C firmware, the compiler, C's read and write"
 PROVED = "proved: from the bytes to the order of each log, after every list of calls"
 NOTE = ("The third call, `clock_in_place` (refused with 26, 10, 25), sets the time, drops what has lapsed (`alive`), and settles as in steps 10 to 12.")
@@ -215,7 +215,8 @@ def draw_crate(drawing, crate, marks, x, y, width, height, scale):
 def group_places(crates, sums):
     """The left edge and the width of each group: by how many boxes its fullest layer has, but at least that of the words of its sum."""
     least = max(text_width(sum_words(sizes), 11, True) for sizes in sums.values())
-    count = {group: max(sum(crate.group == group and crate.layer == other.layer for crate in crates) for other in crates) for group in GROUPS}
+    fullest = {group: max(sum(crate.group == group and crate.layer == other.layer for crate in crates) for other in crates) for group in GROUPS}
+    count = {group: min(fullest[group], GROUPS[group][2]) for group in GROUPS}
     room = WIDTH - 2 * MARGIN - NUMBERS - 2 * 2 * GAP
     narrow = [group for group in GROUPS if room * count[group] < least * sum(count.values())]
     unit = (room - least * len(narrow)) / sum(count[group] for group in GROUPS if group not in narrow)
@@ -226,26 +227,28 @@ def group_places(crates, sums):
     return places
 
 def layer_boxes(crates, places):
-    """The crates of one layer, each with the left edge and the width of its box."""
+    """The crates of one layer, each with the left edge and the width of its box, its row, and how many rows there are."""
     boxes = []
     for group, (x, width) in places.items():
         here = [crate for crate in crates if crate.group == group]
-        each = (width - GAP * (len(here) - 1)) / max(len(here), 1)
-        boxes += [(crate, x + number * (each + GAP), each) for number, crate in enumerate(here)]
+        columns = max(min(len(here), GROUPS[group][2]), 1)
+        each = (width - GAP * (columns - 1)) / columns
+        boxes += [(crate, x + number % columns * (each + GAP), each, number // columns, -(-len(here) // columns)) for number, crate in enumerate(here)]
     return boxes
 
 def bars_scale(layers, places, sums):
     """The width of a line, so that the bars of each box and of each sum, with the numbers behind them, have room."""
-    boxes = [(min(width - 16, BLOCK - 8) if width > 2 * BLOCK else width - 16, crate.sizes) for layer in layers for crate, _, width in layer_boxes(layer, places)]
+    boxes = [(min(width - 16, BLOCK - 8) if width > 2 * BLOCK else width - 16, crate.sizes) for layer in layers for crate, _, width, _, _ in layer_boxes(layer, places)]
     return min((width - LABEL - 5 - text_width(words, 11)) / max(sum(lines for lines, _ in pieces), 1)
                for width, sizes in boxes + [(places[group][1], sums[group]) for group in GROUPS] for _, pieces, words in bar_rows(sizes))
 
 def draw_layer(drawing, crates, marks, places, y, scale):
     """The boxes of one layer. Returns the y below them."""
     boxes = layer_boxes(crates, places)
-    height = max(draw_crate(Drawing(), crate, marks, x, 0, width, 0, scale) for crate, x, width in boxes)
-    for crate, x, width in boxes:
-        draw_crate(drawing, crate, marks, x, y, width, height, scale)
+    height = max((draw_crate(Drawing(), crate, marks, x, 0, width, 0, scale) + GAP) * rows for crate, x, width, _, rows in boxes) - GAP
+    for crate, x, width, row, rows in boxes:
+        each = (height + GAP) / rows
+        draw_crate(drawing, crate, marks, x, y + row * each, width, each - GAP, scale)
     drawing.text(MARGIN, y + height / 2 + 4, str(crates[0].layer), 13, QUIET, True)
     return y + height
 
@@ -256,6 +259,8 @@ def draw_layers(drawing, crates, steps, y):
     layers = [[crate for crate in crates if crate.layer == layer] for layer in range(max(crate.layer for crate in crates), -1, -1)]
     marks = {step.crate: [other.mark for other in steps if other.crate == step.crate] for step in steps if step.crate}
     scale = bars_scale(layers, places, sums)
+    if scale <= 0:
+        stop("a box is too narrow for its numbers: let fewer stand side by side")
     y = draw_legend(drawing, y, scale) + 34
     for group, (x, width) in places.items():
         drawing.text(x, y, GROUPS[group][0], 14, INK, True)

@@ -1,6 +1,6 @@
-// Send, beacon, receive, clock and set back by value, for callers in Rattle, thin over those in place (a
-// beacon over the send by value). Each accepts any input; what it promises is that of documents 01 and 02, for
-// every argument.
+// Send, beacon, receive, clock and set back by value, for callers in Rattle, thin over those in place
+// (a beacon over the send by value). Each accepts any input; what it promises is that of documents 01
+// and 02, for every argument.
 mod beacon;
 mod clock;
 mod receive;

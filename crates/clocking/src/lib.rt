@@ -1,5 +1,5 @@
-// Clock, in place on a lent record. Of the record it may touch time, high, count, marks, barrier,
-// slots and floor, and beside it the output; the own number it only reads. It accepts any input, and what it
+// Clock, in place on a lent record. Of the record it may touch time, high, count, marks, barrier, slots
+// and floor, and beside it the output; the own number it only reads. It accepts any input, and what it
 // promises is document 01's clock, for every argument. An internal crate: `exports` and `by_value` have
 // the public calls.
 use parts::Answer;

@@ -1,7 +1,7 @@
-// Runs the calls by value but set back, each accepted and each refused: bench cases 1, 2, 6 and 11 of document 01,
-// beacons, one of them too far ahead, a frame of W-204's busy yard, a trace of each frame before its
-// receive, and a panel number above 63. It prints a line for each call; the file stdout beside src/ is
-// what it must print. (tests/ runs all bench cases, in place.)
+// Runs the calls by value but set back, each accepted and each refused: bench cases 1, 2, 6 and 11 of
+// document 01, beacons, one of them too far ahead, a frame of W-204's busy yard, a trace of each frame
+// before its receive, and a panel number above 63. It prints a line for each call; the file stdout
+// beside src/ is what it must print. (tests/ runs all bench cases, in place.)
 use by_value::Sent;
 use panel::Panel;
 use telling::at;

@@ -1,7 +1,7 @@
 // What the calls share: the record in the parts that it is lent in, their answer, refusal 26, and
 // settling the slots. `broken` reads the record and changes nothing; `settle_slots` changes high,
-// marks, barrier, slots, floor and output. An internal crate. Preconditions: slots, places and room, which the
-// calls have.
+// marks, barrier, slots, floor and output. An internal crate. Preconditions: slots, places and room,
+// which the calls have.
 //
 // A record is lent in its parts, and not as a struct, since the prover walks no function with a
 // reference to a struct. So the calls have long lists of parameters, always in the order of the

@@ -1,5 +1,5 @@
-// Receive, in place on a lent record. Of the record it may touch high, count, marks, barrier,
-// slots and floor, and beside it the output; own number and time it only reads. It accepts any input, and what it
+// Receive, in place on a lent record. Of the record it may touch high, count, marks, barrier, slots and
+// floor, and beside it the output; own number and time it only reads. It accepts any input, and what it
 // promises is document 01's receive, for every argument. An internal crate: `exports` and `by_value`
 // have the public calls.
 use checking::receive_number;

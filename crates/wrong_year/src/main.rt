@@ -1,7 +1,7 @@
-// A clock set to a wrong year, and set back, by value. Panel 0 hears "hold lifted" of panel 5, which names
-// the hold of panel 3; the hold lapses, and the log goes without it. Then the clock shows a wrong year, and the
-// panel is deaf. Set back, it still refuses the hold; what comes later is taken. It prints a line for
-// each call; the file stdout beside src/ is what it must print.
+// A clock set to a wrong year, and set back, by value. Panel 0 hears "hold lifted" of panel 5, which
+// names the hold of panel 3; the hold lapses, and the log goes without it. Then the clock shows a wrong
+// year, and the panel is deaf. Set back, it still refuses the hold; what comes later is taken. It
+// prints a line for each call; the file stdout beside src/ is what it must print.
 use telling::at;
 use telling::clock;
 use telling::print;

@@ -13,7 +13,7 @@ use Rattle.frame.specs.Message.{Message, messageOf}
 use Rattle.rules.specs.Panel.{Panel, ready, met, lapsed}
 use Rattle.rules.specs.Settling.{sooner, chosen, choice}
 use Rattle.rules.proofs.Choice.{choice-some, getD-default}
-use Rattle.rules.proofs.ChoiceUpwards.{getD-before, getD-last, chosenLast, choice-snoc}
+use Rattle.choosing.proofs.ChoiceUpwards.{getD-before, getD-last, chosenLast, choice-snoc}
 use Rattle.choosing.specs.Choice.{asking, firstIn, goesBefore, considered}
 use Rattle.choosing.specs.declared.First.{First}
 

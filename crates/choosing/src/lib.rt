@@ -13,7 +13,7 @@ ghost use Rattle.frame.specs.Reading.{messageIn};
 ghost use Rattle.rules.specs.Panel.{met};
 ghost use Rattle.rules.specs.Panel.{ready as isReady};
 ghost use Rattle.rules.specs.Settling.{choice as choiceIn};
-ghost use Rattle.rules.specs.Visiting.{visits};
+ghost use Rattle.visits.specs.Visiting.{visits};
 ghost use Rattle.slots.specs.Slots.{Reads, Slots, Listed, held};
 ghost use Rattle.slots.specs.Slots.{frameAt as frameIn};
 ghost use Rattle.choosing.specs.Choice.{asking, firstIn, goesBefore, considered};

@@ -18,16 +18,16 @@ use Rattle.rules.specs.Handing.{hand}
 use Rattle.rules.specs.Calls.{newMessage}
 use Rattle.rules.specs.Refusals.{tooFarAhead, Listed, freshNumber}
 use Rattle.rules.specs.Results.{Call, send, receive, outputOf, bufferOf, effectOf, refused, defined}
-use Rattle.rules.specs.Visiting.{Counted, trace}
+use Rattle.visits.specs.Visiting.{Counted, trace}
 use Rattle.rules.specs.Lists.{recordAt, givenTo, sends, Before, Lawful}
 use Rattle.rules.specs.Lapsing.{floorAt}
 use Rattle.rules.specs.Demand3.{Demand3}
 use Rattle.rules.specs.FarAhead.{FarAhead}
 use Rattle.rules.specs.Cases.{withFloor}
 use Rattle.barriers.specs.Barriers.{asOld, NoLonger, StaysOrGoes}
-use Rattle.rules.proofs.Theorems.{demand-3, number-listed, reading-listed, fresh-listed, trace-listed, refusal-unchanged, sent-reads, trace-waits-reached}
-use Rattle.rules.proofs.Visiting.{visits-counted}
-use Rattle.rules.proofs.Tracing.{trace-number, trace-handed}
+use Rattle.rules.proofs.Theorems.{demand-3, number-listed, reading-listed, fresh-listed, refusal-unchanged, sent-reads}
+use Rattle.visits.proofs.Visiting.{visits-counted}
+use Rattle.visits.proofs.Tracing.{trace-number, trace-listed, trace-handed, trace-waits-reached}
 use Rattle.rules.proofs.FarAhead.{far-ahead, causes-near}
 use Rattle.rules.proofs.Shortened.{own-goes-in}
 use Rattle.barriers.proofs.Barriers.{no-longer, stays-or-goes}

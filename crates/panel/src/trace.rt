@@ -3,7 +3,7 @@ use crate::Panel;
 use tracing::Trace;
 use tracing::panel_trace_parts;
 ghost use mathlib.Core.Path.{_≡_};
-ghost use Rattle.rules.specs.Visiting.{trace};
+ghost use Rattle.visits.specs.Visiting.{trace};
 ghost use Rattle.tracing.specs.Shown.{shownIn};
 ghost use Rattle.panel.specs.Record.{recordOf};
 

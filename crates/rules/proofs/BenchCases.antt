@@ -8,7 +8,7 @@ use Rattle.numbers.specs.Buffer.{over}
 use Rattle.frame.specs.Message.{maskOf, present, byPanel}
 use Rattle.frame.specs.Frame.{fields, frame}
 use Rattle.frame.specs.Refusal.{firstOf}
-use Rattle.frame.specs.Reading.{eachEarlier, checks, messageIn, reading}
+use Rattle.frame.specs.Reading.{eachEarlier, checks, messageIn}
 use Rattle.frame.specs.Readable.{eachBelow, readable}
 use Rattle.rules.specs.Panel.{oldMake, newMake, none64, fresh, hasLapsed, lapsed, met, eachPanel, ready}
 use Rattle.rules.specs.Handing.{raise, shortened, barrierFor, largest, missed, hand, logRecord, logRecords}
@@ -16,12 +16,11 @@ use Rattle.rules.specs.Settling.{sooner, chosen, choice, without, goOn, 
 use Rattle.rules.specs.Calls.{handAndSettle, sendDeadline, newMessage, sending, receiving, alive, clocking, settingBack}
 use Rattle.rules.specs.Refusals.{eachReadable, broken, isWaiting, tooFarAhead, sendChecks, messageChecks, receiveChecks, clockChecks, setBackChecks}
 use Rattle.rules.specs.Results.{refused, done, unless, defined}
-use Rattle.rules.specs.Visiting.{entriesFrom, upToUnmet, traceChecks, trace}
-use Rattle.rules.specs.Cases.{Holds, finished, _and_, EachHolds, EachShown}
+use Rattle.rules.specs.Cases.{Holds, finished, _and_, EachHolds}
 use Rattle.rules.specs.FarAheadCases.{farFrame1, farFrame2, caseFarAhead, caseFarAheadStays, caseLastDays}
 use Rattle.rules.specs.BarrierCases.{frameC, frameD, caseYard, caseYardMixed, caseRemoved, caseOwn}
 use Rattle.rules.specs.FloorCases.{caseWrongYear, caseFloor, caseFloorUnreached}
-use Rattle.rules.specs.BenchCases.{frame1, case1, frame2, case2, case3, case4, case5, case6, case7, case8, queue, case9, case10, case11, caseBeacon, caseOrder, caseUnreached, caseTrace, benchCases}
+use Rattle.rules.specs.BenchCases.{frame1, case1, frame2, case2, case3, case4, case5, case6, case7, case8, queue, case9, case10, case11, caseBeacon, caseOrder, caseUnreached, benchCases}
 
 -- whoever unfolds these unfolds all definitions: of frames, of a panel's rules, of the calls, and the cases
 unfoldable pub framesOpened : Unit {0}
@@ -35,10 +34,6 @@ rulesOpened = tt
 unfoldable pub callsOpened : Unit {0}
 unfolding framesOpened rulesOpened handAndSettle sendDeadline newMessage sending receiving alive clocking settingBack eachReadable broken isWaiting tooFarAhead sendChecks messageChecks receiveChecks clockChecks setBackChecks refused done unless defined
 callsOpened = tt
-
-tracesOpened : Unit {0}
-unfolding callsOpened fresh reading entriesFrom upToUnmet traceChecks trace frame1 frame2 farFrame1 farFrame2 queue caseTrace
-tracesOpened = tt
 
 casesOpened : Unit {0}
 unfolding callsOpened frame1 frame2 farFrame1 farFrame2 queue case1 case2 case3 case4 case5 case6 case7 case8 case9 case10 case11 caseBeacon caseOrder caseUnreached caseFarAhead caseFarAheadStays caseLastDays fresh caseYard caseYardMixed caseRemoved caseOwn caseWrongYear caseFloor caseFloorUnreached
@@ -166,11 +161,6 @@ case-floor-unreached = after case-floor refl
 pub bench-cases : EachHolds benchCases
 bench-cases =
     case-1 and case-2 and case-3 and case-4 and case-5 and case-6 and case-7 and case-8 and case-9 and case-10 and case-11 and case-beacon and case-order and case-unreached and case-far-ahead and case-far-ahead-stays and case-last-days and case-yard-new and case-yard-old and case-yard-new-new and case-yard-new-old and case-yard-old-new and case-yard-old-old and case-removed and case-own and case-wrong-year and case-floor and case-floor-unreached and finished
-
--- Of every look of the traces' case, what the case shows is what documents 01 and 02 define.
-pub trace-case : EachShown caseTrace
-unfolding tracesOpened
-trace-case = after case-floor-unreached refl
 
 -- At the busy yard a frame of the new make has fewer bytes than one of the old make.
 pub yard-shorter : (length (frameC newMake) ≡ 23) × (length (frameC oldMake) ≡ 27) × (length (frameD newMake) ≡ 23) × (length (frameD oldMake) ≡ 31)

@@ -3,12 +3,10 @@ pub mod BenchCases
 pub mod Booleans
 pub mod Missed
 pub mod Ready
-pub mod Visiting
 pub mod Raise
 pub mod Shortened
 pub mod WaitingList
 pub mod Choice
-pub mod ChoiceUpwards
 pub mod Settling
 pub mod LogRecords
 pub mod Checks
@@ -27,7 +25,6 @@ pub mod ClockStep
 pub mod SetBackStep
 pub mod Reached
 pub mod Results
-pub mod Tracing
 pub mod FarAhead
 pub mod Theorems
 pub mod Shams

@@ -13,7 +13,7 @@ use Rattle.numbers.specs.Numbers.{Bytes}
 use Rattle.numbers.proofs.Over.{length-over, take-over}
 use Rattle.frame.specs.Message.{Message}
 use Rattle.frame.specs.Frame.{frame}
-use Rattle.frame.specs.Reading.{message, checks, refusal, messageIn, reading}
+use Rattle.frame.specs.Reading.{message, checks, refusal, reading}
 use Rattle.frame.specs.Refusal.{firstOf}
 use Rattle.frame.proofs.FirstOf.{eachNumber, firstOf-each}
 use Rattle.frame.proofs.Theorems.{reading-frame}
@@ -22,10 +22,9 @@ use Rattle.rules.specs.Sizes.{width}
 use Rattle.rules.specs.Panel.{Name, Make, Panel, ready, fresh}
 use Rattle.rules.specs.Handing.{logRecords}
 use Rattle.rules.specs.Settling.{settle}
-use Rattle.rules.specs.Calls.{newMessage, receiving}
+use Rattle.rules.specs.Calls.{newMessage}
 use Rattle.rules.specs.Refusals.{isRefusal, Listed, broken, freshNumber, freshRecord}
 use Rattle.rules.specs.Results.{Call, outputOf, bufferOf, checksOf, effectOf, frameOf, Result, refused, done, defined, Promised, send}
-use Rattle.rules.specs.Visiting.{traceChecks, trace}
 use Rattle.rules.specs.Lists.{_isIn_, Made, recordAt, givenTo, logAt, Lawful, AllPromised, ran}
 use Rattle.rules.specs.Demand3.{Demand3}
 use Rattle.rules.proofs.Booleans.{or-either, cond-both}
@@ -34,7 +33,6 @@ use Rattle.rules.proofs.Handed.{effect-count}
 use Rattle.rules.proofs.Checks.{false-broken, send-passed, new-readable}
 use Rattle.rules.proofs.Cause.{named, known-deadline}
 use Rattle.rules.proofs.Results.{defined-both, defined-number, passed-valid, BytesOf, output-fits, buffer-fits, checks-listed, number-26}
-use Rattle.rules.proofs.Tracing.{trace-first, trace-checks-listed, trace-waits}
 use Rattle.rules.proofs.Steps.{ListSound}
 use Rattle.rules.proofs.Reached.{list-sound, logged-whole, whole-logged, reached-valid}
 
@@ -100,13 +98,6 @@ never-26 list lawful promised panel lt call =
     number-26 (recordAt panel list) call
     (false-broken (recordAt panel list) (reached-valid list (list-sound list lawful promised) panel lt))
 
--- At a record reached by a list, a message that a trace shows not to be ready, and that is not refused, waits: its receive hands nothing.
-pub trace-waits-reached : (list : List Made) → Lawful list → AllPromised list → (panel : ℕ) (bytes : List ℕ)
-    → let p = recordAt panel list in
-    trace p bytes .number ≡ 0 → trace p bytes .ready ≡ false → receiving p (messageIn width bytes) .handed ≡ []
-trace-waits-reached list lawful promised panel bytes =
-    trace-waits (recordAt panel list) bytes (list-sound list lawful promised .sites panel .settled)
-
 -- ---- settling
 
 -- Settling ends with nothing ready waiting.
@@ -116,13 +107,12 @@ settle-done p = settle-settles p .settled
 -- ---- one call, on any record
 
 -- the number of the first check that applies is listed where each is
-listed : (table : List (Bool × ℕ)) → eachNumber (λ n. eqb n 0 || isRefusal n) table ≡ true → Listed (firstOf table)
+pub listed : (table : List (Bool × ℕ)) → eachNumber (λ n. eqb n 0 || isRefusal n) table ≡ true → Listed (firstOf table)
 listed table each =
     ⊎-elim (λ e. inl (eqb-true (firstOf table) 0 e)) (λ e. inr e)
     (or-either (eqb (firstOf table) 0) (isRefusal (firstOf table)) (firstOf-each (λ n. eqb n 0 || isRefusal n) table refl each))
 
--- The answer is 0 or one of the numbers of documents 01 and 02: that of a send, receive or clock call, of a frame check or reading, of fresh, and of a
--- trace.
+-- The answer is 0 or one of the numbers of documents 01 and 02: that of a call, of a frame check or reading, and of fresh.
 pub number-listed : (p : Panel) (call : Call) → Listed (defined p call .number)
 number-listed p call = rw (defined-number p call) (listed (checksOf p call) (checks-listed p call))
 
@@ -133,9 +123,6 @@ reading-listed bytes = listed (checks width bytes) refl
 pub fresh-listed : (own : ℕ) → Listed (freshNumber own)
 unfolding eachNumber freshNumber
 fresh-listed own = listed ((ltb 63 own, 11) ∷ []) refl
-
-pub trace-listed : (p : Panel) (bytes : List ℕ) → Listed (trace p bytes .number)
-trace-listed p bytes = rw (trace-first p bytes) (listed (traceChecks p bytes) (trace-checks-listed p bytes))
 
 -- A refusal gives back the record as it was and alters no byte of a lent buffer; every count and length is 0.
 pub refusal-unchanged : (p : Panel) (call : Call) → defined p call .number ≢ 0

@@ -1,14 +1,13 @@
 -- Document 01, "Bench cases" 1 to 11 (12 is of the program), the first three with the deadlines of document 02, W-203; cases of our own; and all
 -- of them in one list.
 use Prim.Native.Nat.{ℕ, zero, suc, _+_}
-use mathlib.Core.Bool.{true, false}
 use mathlib.Core.List.{List, [], _∷_, _++_}
-use lib.ListN.{take, drop, replicate}
+use lib.ListN.{replicate}
 use Rattle.frame.specs.Message.{Message, messageOf}
-use Rattle.rules.specs.Panel.{oldMake, newMake, Panel, none64, fresh}
+use Rattle.rules.specs.Panel.{oldMake, newMake, Panel, none64}
 use Rattle.rules.specs.Calls.{beaconLifetime}
 use Rattle.rules.specs.Results.{send, receive, clock}
-use Rattle.rules.specs.Cases.{Step, step, Look, look, of, panelOf, output, buffer, logged, frameFrom, zeros8, sent, taken, refusedWith}
+use Rattle.rules.specs.Cases.{Step, step, of, panelOf, output, buffer, logged, frameFrom, zeros8, sent, taken, refusedWith}
 use Rattle.rules.specs.BarrierCases.{caseYard, caseYardMixed, caseRemoved, caseOwn}
 use Rattle.rules.specs.FloorCases.{caseWrongYear, caseFloor, caseFloorUnreached}
 use Rattle.rules.specs.FarAheadCases.{farFrame1, farFrame2, caseFarAhead, caseFarAheadStays, caseLastDays}
@@ -212,36 +211,6 @@ caseUnreached =
     (taken (panelOf 0 500 800 marks marks [])
     (logged (7 ∷ 0x00 ∷ 0x00 ∷ 0x03 ∷ 0x20 ∷ 0 ∷ []) ∷ logged (5 ∷ 0x00 ∷ 0x00 ∷ 0x01 ∷ 0x90 ∷ 0 ∷ [])
     ∷ logged (0 ∷ 0x00 ∷ 0x00 ∷ 0x02 ∷ 0x58 ∷ 0 ∷ []) ∷ logged (0 ∷ 0x00 ∷ 0x00 ∷ 0x02 ∷ 0x58 ∷ 0 ∷ []) ∷ []))
-    ∷ []
-
--- ---- document 02, W-202: traces, of the frames of cases 1 and 2, and of a message of panel 5 (or 6) with entries 800 of panels 3, 7 and 9
-
-unfoldable pub caseTrace : List Look
-caseTrace =
-    let after = frameFrom (0x05 ∷ 0x00 ∷ 0x00 ∷ 0x03 ∷ 0x84 ∷ replicate 6 0x00)
-    (0x02 ∷ 0x88 ∷ 0x00 ∷ 0x00 ∷ 0x03 ∷ 0x20 ∷ 0x00 ∷ 0x00 ∷ 0x03 ∷ 0x20 ∷ 0x00 ∷ 0x00 ∷ 0x03 ∷ 0x20 ∷ 0x00 ∷ []) in
-    let of6 = frameFrom (0x06 ∷ []) (drop 6 after) in
-    let had : List (ℕ × ℕ) → Panel = λ marks. panelOf 0 0 900 (of marks) none64 [] in
-    let all : List (ℕ × ℕ) = (3, 800) ∷ (7, 800) ∷ (9, 800) ∷ [] in
-    look (fresh 0) frame1 0 true 0  -- no bit is set
-    ∷ look (fresh 0) frame2 0 false 1
-    ∷ look (had []) after 0 false 1
-    ∷ look (had ((3, 800) ∷ [])) after 0 false 2  -- the empty bits between are not visited, nor is 9 behind
-    ∷ look (had ((7, 800) ∷ (9, 800) ∷ [])) after 0 false 1  -- lowest first
-    ∷ look (had ((3, 800) ∷ (7, 800) ∷ (9, 799) ∷ [])) after 0 false 3  -- the last one alone is not met
-    ∷ look (had all) after 0 true 3
-    ∷ look (panelOf 0 801 0 none64 none64 []) after 0 true 3  -- an entry that has lapsed is met, and visited
-    ∷ look (panelOf 5 0 900 (of ((3, 800) ∷ [])) none64 []) after 20 false 2
-    ∷ look (panelOf 0 901 0 none64 none64 []) after 21 true 3
-    ∷ look (had ((5, 900) ∷ (3, 800) ∷ [])) after 22 false 2
-    ∷ look (panelOf 0 0 900 (of ((3, 800) ∷ [])) none64 (queue 32)) after 22 false 2  -- it waits already
-    ∷ look (panelOf 0 0 900 (of ((3, 800) ∷ [])) none64 (queue 32)) of6 23 false 2
-    ∷ look (fresh 0) farFrame1 32 true 0  -- too far ahead
-    ∷ look (fresh 0) farFrame2 32 false 1
-    ∷ look (panelOf 0 0 900 (of all) none64 (queue 32)) of6 0 true 3
-    ∷ look (panelOf 64 0 900 (of ((3, 800) ∷ [])) none64 []) after 26 false 2  -- a broken record has marks and a time all the same
-    ∷ look (had all) (take 18 after) 1 false 0
-    ∷ look (panelOf 64 0 900 (of all) none64 []) (take 18 after) 26 false 0
     ∷ []
 
 -- ---- all of them

@@ -1,14 +1,11 @@
--- How cases are written: a step is a record and a call in; the answer, the record and all bytes out. A trace is a record and a frame in; what is
--- shown out. Bytes are written out by hand.
+-- How cases are written: a step is a record and a call in; the answer, the record and all bytes out. Bytes are written out by hand.
 use Prim.Native.Nat.{ℕ, _*_}
 use mathlib.Core.Path.{_≡_}
-use mathlib.Core.Bool.{Bool}
 use mathlib.Core.List.{List, [], _∷_, _++_, map, flatten}
 use lib.ListN.{length, take, drop, set, replicate}
 use Rattle.frame.specs.Message.{Message}
 use Rattle.rules.specs.Panel.{newMake, Panel, none64}
 use Rattle.rules.specs.Results.{Call, Result, defined}
-use Rattle.rules.specs.Visiting.{Trace, trace}
 
 -- a step: the record and the call that go in, and what comes out
 pub record Step : Type 0 where
@@ -28,16 +25,6 @@ infixr 5 _and_
 pub data EachHolds : List (List Step) → Type 0 where
   finished : EachHolds []
   _and_ : {steps : List Step} {cases : List (List Step)} → Holds steps → EachHolds cases → EachHolds (steps ∷ cases)
-
--- a trace: the record and the frame that go in, and what is shown
-pub record Look : Type 0 where
-  pub panel : Panel
-  pub bytes : List ℕ
-  pub shown : Trace
-
--- what documents 01 and 02 define is what the case shows
-abbrev pub EachShown : List Look → Type 0
-EachShown looks = map (λ (l : Look). l .shown) looks ≡ map (λ (l : Look). trace (l .panel) (l .bytes)) looks
 
 -- ---- records, bytes and results
 
@@ -112,8 +99,3 @@ setBackTo panel = record { number = 0; panel = panel; count = 0; output = []; fr
 abbrev pub refusedWith : ℕ → Panel → List ℕ → List ℕ → Result
 refusedWith number panel output buffer =
     record { number = number; panel = panel; count = 0; output = output; frameLength = 0; buffer = buffer }
-
--- shown at that record: the number, whether it is ready, how many entries were visited
-abbrev pub look : Panel → List ℕ → ℕ → Bool → ℕ → Look
-look panel bytes number ready visited =
-    record { panel = panel; bytes = bytes; shown = record { number = number; ready = ready; visited = visited } }

@@ -1,5 +1,5 @@
 -- Document 01, in its order, with what document 02 changes and adds: the panel record and its rules, the calls, what is turned down, what each
--- call gives; the visits of the test for ready, and traces; the words of demand 3, the statement that is proved of them; what is shown of
+-- call gives; the words of demand 3, the statement that is proved of them; what is shown of
 -- deadlines far ahead; and the cases.
 --
 -- How to read it. `f : A → B` names a function, and the lines below it say what it gives. `x ∷ xs` is the list xs with x in front, `[]` the empty
@@ -15,7 +15,6 @@ pub mod Settling
 pub mod Calls
 pub mod Refusals
 pub mod Results
-pub mod Visiting
 pub mod Lists
 pub mod Lapsing
 pub mod Demand3

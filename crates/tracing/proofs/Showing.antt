@@ -12,7 +12,7 @@ use Rattle.frame.proofs.Passed.{reading-zero, reading-refused}
 use Rattle.rules.specs.Sizes.{width}
 use Rattle.rules.specs.Panel.{Panel, lapsed, met, ready}
 use Rattle.rules.specs.Refusals.{broken, messageChecks}
-use Rattle.rules.specs.Visiting.{Entry, entriesOf, isMet, upToUnmet, visits, traceChecks, trace}
+use Rattle.visits.specs.Visiting.{Entry, entriesOf, isMet, upToUnmet, visits, traceChecks, trace}
 use Rattle.slots.specs.Slots.{Reads}
 use Rattle.choosing.specs.Choice.{asking}
 use Rattle.checking.proofs.MessageChecks.{ready-asking}

@@ -1,5 +1,5 @@
 -- A trace's answer as the rules have it.
-use Rattle.rules.specs.Visiting.{Trace as Traced}
+use Rattle.visits.specs.Visiting.{Trace as Traced}
 use Rattle.tracing.specs.declared.Trace.{Trace}
 
 abbrev pub shownIn : Trace → Traced

@@ -7,7 +7,7 @@ use frame::frame_check;
 use parts::broken;
 ghost use mathlib.Core.Path.{_≡_};
 ghost use mathlib.Core.Bool.{cond};
-ghost use Rattle.rules.specs.Visiting.{trace};
+ghost use Rattle.visits.specs.Visiting.{trace};
 ghost use Rattle.parts.specs.Record.{parts, recordOf};
 ghost use Rattle.tracing.specs.Shown.{shownIn};
 

@@ -14,9 +14,9 @@ use Rattle.numbers.specs.Numbers.{numberAt}
 use Rattle.frame.specs.Reading.{maskIn, messageIn}
 use Rattle.frame.proofs.Passed.{zero-passed, maskOf-passed}
 use Rattle.rules.specs.Panel.{met, lapsed, eachPanel, ready}
-use Rattle.rules.specs.Visiting.{visits, onesOf}
+use Rattle.visits.specs.Visiting.{visits, onesOf}
 use Rattle.rules.proofs.Ready.{eachPanel-true}
-use Rattle.rules.proofs.Visiting.{visits-stop, visits-counted}
+use Rattle.visits.proofs.Visiting.{visits-stop, visits-counted}
 use Rattle.slots.specs.Slots.{Reads}
 use Rattle.slots.proofs.SetBits.{next}
 use Rattle.slots.proofs.Walk.{entryOf, length-entries, Walk, walk-start, end-none, end-passed, turn-lt, turn-passed, turn-entry, turn-above, turn-skips, walk-on}

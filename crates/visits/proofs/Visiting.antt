@@ -14,9 +14,9 @@ use Rattle.numbers.proofs.Ones.{onesIn-zero}
 use Rattle.frame.specs.Message.{Message, maskOf}
 use Rattle.frame.proofs.Conjunction.{and-both}
 use Rattle.frame.proofs.Entries.{maskOf-mod, maskOf-div}
 use Rattle.rules.specs.Panel.{Panel, met, eachPanel, ready}
-use Rattle.rules.specs.Visiting.{Entry, entriesFrom, entriesOf, isMet, upToUnmet, visited, visits, lastMet, onesOf, Counted}
+use Rattle.visits.specs.Visiting.{Entry, entriesFrom, entriesOf, isMet, upToUnmet, visited, visits, lastMet, onesOf, Counted}
 use Rattle.rules.proofs.Ready.{eachPanel-true, eachPanel-false}
 
 -- ---- the bits of a mask, one after the other
 

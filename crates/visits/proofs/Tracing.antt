@@ -13,20 +13,22 @@ use Rattle.frame.specs.Refusal.{firstOf}
 use Rattle.frame.specs.Reading.{Reading, message, refused, checks, refusal, messageIn, reading}
 use Rattle.frame.proofs.FirstOf.{eachNumber, firstOf-append}
 use Rattle.frame.proofs.Passed.{reading-message, reading-zero}
 use Rattle.rules.specs.Sizes.{width, outputLength}
 use Rattle.rules.specs.Panel.{Panel, ready}
 use Rattle.rules.specs.Handing.{hand}
 use Rattle.rules.specs.Settling.{choice, withWaiting, Settled, goOn, settle}
 use Rattle.rules.specs.Calls.{handAndSettle, receiving}
-use Rattle.rules.specs.Refusals.{isRefusal, broken, messageChecks, receiveChecks}
+use Rattle.rules.specs.Refusals.{isRefusal, Listed, broken, messageChecks, receiveChecks}
 use Rattle.rules.specs.Results.{receive, defined}
-use Rattle.rules.specs.Visiting.{traceChecks, shown, trace}
-use Rattle.rules.specs.Lists.{_isIn_}
+use Rattle.visits.specs.Visiting.{traceChecks, shown, trace}
+use Rattle.rules.specs.Lists.{_isIn_, Made, recordAt, Lawful, AllPromised}
 use Rattle.rules.proofs.Ready.{ready-withWaiting}
 use Rattle.rules.proofs.WaitingList.{getD-isIn, isIn-end}
 use Rattle.rules.proofs.Choice.{choice-some}
 use Rattle.rules.proofs.Settling.{NoneReady, settle-step}
 use Rattle.rules.proofs.Results.{defined-number}
+use Rattle.rules.proofs.Reached.{list-sound}
+use Rattle.rules.proofs.Theorems.{listed}
 
 -- ---- the number
 
@@ -49,9 +51,12 @@ module _ (p : Panel) (bytes output : List ℕ) (room : outputLength ≤ length o
   trace-number = trace-first p bytes ∙ checks-same ∙ sym (defined-number p (receive bytes output))
 
 -- 0, or one of the numbers of documents 01 and 02
-pub trace-checks-listed : (p : Panel) (bytes : List ℕ) → eachNumber (λ n. eqb n 0 || isRefusal n) (traceChecks p bytes) ≡ true
+trace-checks-listed : (p : Panel) (bytes : List ℕ) → eachNumber (λ n. eqb n 0 || isRefusal n) (traceChecks p bytes) ≡ true
 unfolding eachNumber traceChecks messageChecks checks
 trace-checks-listed p bytes = refl
+
+pub trace-listed : (p : Panel) (bytes : List ℕ) → Listed (trace p bytes .number)
+trace-listed p bytes = rw (trace-first p bytes) (listed (traceChecks p bytes) (trace-checks-listed p bytes))
 
 -- ---- ready
 
@@ -108,3 +113,10 @@ pub trace-waits : (p : Panel) (bytes : List ℕ) → NoneReady p → trace p byt
 unfolding trace
 trace-waits p bytes unready passed e =
     receiving-unready p (messageIn width bytes) unready (rw (reading-zero width bytes (trace-reads p bytes passed)) at e)
+
+-- At a record reached by a list, a message that a trace shows not to be ready, and that is not refused, waits: its receive hands nothing.
+pub trace-waits-reached : (list : List Made) → Lawful list → AllPromised list → (panel : ℕ) (bytes : List ℕ)
+    → let p = recordAt panel list in
+    trace p bytes .number ≡ 0 → trace p bytes .ready ≡ false → receiving p (messageIn width bytes) .handed ≡ []
+trace-waits-reached list lawful promised panel bytes =
+    trace-waits (recordAt panel list) bytes (list-sound list lawful promised .sites panel .settled)

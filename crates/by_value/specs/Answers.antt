@@ -3,21 +3,9 @@ use Prim.Native.Nat.{ℕ}
 use mathlib.Core.List.{List, []}
 use Rattle.rules.specs.Results.{Result}
 use Rattle.panel.specs.Record.{recordOf}
-use Rattle.by_value.specs.declared.Sent.{Sent}
 use Rattle.by_value.specs.declared.Received.{Received}
 use Rattle.by_value.specs.declared.Clocked.{Clocked}
 use Rattle.by_value.specs.declared.SetBack.{SetBack}
-
-abbrev pub sentResult : Sent → List ℕ → List ℕ → Result
-sentResult answer output buffer =
-    record {
-      number = answer .number;
-      panel = recordOf (answer .panel);
-      count = answer .count;
-      output = output;
-      frameLength = answer .length;
-      buffer = buffer;
-    }
 
 abbrev pub receivedResult : Received → List ℕ → Result
 receivedResult answer output =

@@ -17,10 +17,10 @@ use Rattle.panel.proofs.panel_fresh.Statement as panel-fresh
 use Rattle.panel.proofs.panel_fresh.Met as panel-fresh-theorem
 use Rattle.panel.proofs.panel_trace.Statement as panel-trace
 use Rattle.panel.proofs.panel_trace.Met as panel-trace-theorem
-use Rattle.by_value.proofs.panel_send.Statement as panel-send
-use Rattle.by_value.proofs.panel_send.Met as panel-send-theorem
-use Rattle.by_value.proofs.panel_beacon.Statement as panel-beacon
-use Rattle.by_value.proofs.panel_beacon.Met as panel-beacon-theorem
+use Rattle.send_by_value.proofs.panel_send.Statement as panel-send
+use Rattle.send_by_value.proofs.panel_send.Met as panel-send-theorem
+use Rattle.send_by_value.proofs.panel_beacon.Statement as panel-beacon
+use Rattle.send_by_value.proofs.panel_beacon.Met as panel-beacon-theorem
 use Rattle.by_value.proofs.panel_receive.Statement as panel-receive
 use Rattle.by_value.proofs.panel_receive.Met as panel-receive-theorem
 use Rattle.by_value.proofs.panel_clock.Statement as panel-clock
@@ -64,7 +64,7 @@ pub record Calls (M : Type 1) : Type 2 where
   pub panel-clock-parts : panel-clock-parts.statement M
   pub panel-set-back-parts : panel-set-back-parts.statement M
   pub panel-trace-parts : panel-trace-parts.statement M
-  -- The same by value, for callers in Rattle (crates/panel/src/lib.rt, crates/by_value/src): a refusal gives back the very struct.
+  -- The same by value, for callers in Rattle (crates/panel/src/lib.rt, crates/by_value/src, crates/send_by_value/src): a refusal gives back the very struct.
   pub panel-fresh : panel-fresh.statement M
   pub panel-send : panel-send.statement M
   pub panel-beacon : panel-beacon.statement M

@@ -21,10 +21,10 @@ use Rattle.exports.proofs.panel_clock_parts.Reads as clock-parts-reads
 use Rattle.setting_back.specs.Answer.{answerOf}
 use Rattle.setting_back.proofs.panel_set_back_parts.Kinds as set-back-parts
 use Rattle.setting_back.proofs.panel_set_back_parts.Reads as set-back-parts-reads
-use Rattle.by_value.proofs.panel_send.Kinds as send-value
-use Rattle.by_value.proofs.panel_send.Reads as send-value-reads
-use Rattle.by_value.proofs.panel_beacon.Kinds as beacon-value
-use Rattle.by_value.proofs.panel_beacon.Reads as beacon-value-reads
+use Rattle.send_by_value.proofs.panel_send.Kinds as send-value
+use Rattle.send_by_value.proofs.panel_send.Reads as send-value-reads
+use Rattle.send_by_value.proofs.panel_beacon.Kinds as beacon-value
+use Rattle.send_by_value.proofs.panel_beacon.Reads as beacon-value-reads
 use Rattle.by_value.proofs.panel_receive.Kinds as receive-value
 use Rattle.by_value.proofs.panel_receive.Reads as receive-value-reads
 use Rattle.by_value.proofs.panel_clock.Kinds as clock-value

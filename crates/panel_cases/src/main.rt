@@ -2,8 +2,8 @@
 // document 01, beacons, one of them too far ahead, a frame of W-204's busy yard, a trace of each frame
 // before its receive, and a panel number above 63. It prints a line for each call; the file stdout
 // beside src/ is what it must print. (tests/ runs all bench cases, in place.)
-use by_value::Sent;
 use panel::Panel;
+use send_by_value::Sent;
 use telling::at;
 use telling::clock;
 use telling::fresh;
@@ -45,14 +45,14 @@ fn pass_on(label: &[u8], answer: Sent, buffer: &[u8]) -> Panel {
 fn send(p: Panel, payload: &[u8], lifetime: u16) -> Panel {
     let mut output = [0u8; 1254];
     let mut buffer = [0u8; 307];
-    let answer = by_value::panel_send(p, payload, lifetime, &mut output, &mut buffer);
+    let answer = send_by_value::panel_send(p, payload, lifetime, &mut output, &mut buffer);
     pass_on(b"send at panel ", answer, &buffer)
 }
 
 fn beacon(p: Panel, payload: &[u8]) -> Panel {
     let mut output = [0u8; 1254];
     let mut buffer = [0u8; 307];
-    let answer = by_value::panel_beacon(p, payload, &mut output, &mut buffer);
+    let answer = send_by_value::panel_beacon(p, payload, &mut output, &mut buffer);
     pass_on(b"beacon at panel ", answer, &buffer)
 }
 

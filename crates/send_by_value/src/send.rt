@@ -5,7 +5,7 @@ use panel::Panel;
 use sending::send_in_place;
 ghost use Rattle.rules.specs.Results.{Promised, send};
 ghost use Rattle.panel.specs.Record.{recordOf, GivenBack};
-ghost use Rattle.by_value.specs.Answers.{sentResult};
+ghost use Rattle.send_by_value.specs.Answer.{sentResult};
 
 // A payload is sent with a lifetime: its frame stands in the buffer, and the log records in the output.
 pub fn panel_send<'a, 'b, 'c>(

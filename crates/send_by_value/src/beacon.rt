@@ -6,7 +6,7 @@ use panel::Panel;
 ghost use Rattle.rules.specs.Calls.{beaconLifetime};
 ghost use Rattle.rules.specs.Results.{Promised, send};
 ghost use Rattle.panel.specs.Record.{recordOf, GivenBack};
-ghost use Rattle.by_value.specs.Answers.{sentResult};
+ghost use Rattle.send_by_value.specs.Answer.{sentResult};
 
 // Its frame stands in the buffer, and the log records in the output.
 pub fn panel_beacon<'a, 'b, 'c>(

@@ -1,7 +1,7 @@
--- `by_value::beacon::panel_beacon` meets its contract, which is that of the send that it makes. Assumes nothing.
+-- `send_by_value::beacon::panel_beacon` meets its contract, which is that of the send that it makes. Assumes nothing.
 use borrow.Author.Needs.{needs}
-use Rattle.by_value.proofs.beacon.panel_beacon.Statement.{statement}
-use Rattle.by_value.proofs.beacon.panel_beacon.Tie as tie
+use Rattle.send_by_value.proofs.beacon.panel_beacon.Statement.{statement}
+use Rattle.send_by_value.proofs.beacon.panel_beacon.Tie as tie
 
 panel-send-requires : tie.Need-panel-send-requires
 panel-send-requires c κs = search needs

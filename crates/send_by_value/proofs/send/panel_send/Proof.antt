@@ -1,8 +1,8 @@
--- `by_value::send::panel_send` meets its contract: the call in place keeps the promise. Assumes nothing.
+-- `send_by_value::send::panel_send` meets its contract: the call in place keeps the promise. Assumes nothing.
 use borrow.Author.Needs.{needs}
 use Rattle.panel.proofs.GivenBack.{given-back}
-use Rattle.by_value.proofs.send.panel_send.Statement.{statement}
-use Rattle.by_value.proofs.send.panel_send.Tie as tie
+use Rattle.send_by_value.proofs.send.panel_send.Statement.{statement}
+use Rattle.send_by_value.proofs.send.panel_send.Tie as tie
 
 send-in-place-requires : tie.Need-send-in-place-requires
 send-in-place-requires c κs = search needs

@@ -1,0 +1,2 @@
+-- The answer of a send by value.
+pub mod Answer

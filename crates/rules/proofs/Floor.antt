@@ -51,7 +51,7 @@ entriesSent-sent {ss} S m (s, i, e) =
 
 -- ---- the marks are those of the log
 
-markIn-le : (log : List Name) (k above : ℕ) → ((x : Name) → x isIn log → x .source ≡ k → x .deadline ≤ above) → markIn log k ≤ above
+pub markIn-le : (log : List Name) (k above : ℕ) → ((x : Name) → x isIn log → x .source ≡ k → x .deadline ≤ above) → markIn log k ≤ above
 unfolding markIn
 markIn-le [] k above each = omega arith
 markIn-le (n ∷ log) k above each =
@@ -60,7 +60,7 @@ markIn-le (n ∷ log) k above each =
     cond-both (λ d. d ≤ above) (eqb (n .source) k) (λ e. each n (first refl) (eqb-true (n .source) k e)) (λ _. omega arith) in
     omega arith
 
-markIn-ge : (log : List Name) (x : Name) → x isIn log → x .deadline ≤ markIn log (x .source)
+pub markIn-ge : (log : List Name) (x : Name) → x isIn log → x .deadline ≤ markIn log (x .source)
 unfolding markIn
 markIn-ge (n ∷ log) x (first e) =
     rw e (rw (eq-eqb (n .source) (n .source) refl) (omega arith))

@@ -42,7 +42,7 @@ thinned-all {barrier = barrier} m K all k =
     by-cases (decLt 0 (getD barrier k 0)) (λ h. inr (getD-none64 k, all _ (barrier-logged K k h))) (λ h. inl (omega (arith, getD-none64 k)))
 
 -- a message that an entry of m has reached is before m
-entry-before : {ss : List Sent} → SendsSound ss → (m : Message) → WasSent ss m → {x : Name} → Known ss x → x .deadline ≤ getD (m .entries) (x .source) 0
+pub entry-before : {ss : List Sent} → SendsSound ss → (m : Message) → WasSent ss m → {x : Name} → Known ss x → x .deadline ≤ getD (m .entries) (x .source) 0
     → Before ss x (nameOf m)
 entry-before S m (s, i, e) {x} known le =
     let h = S .entry s i (x .source) (rw e (omega (arith, known-deadline S known))) in

@@ -90,26 +90,31 @@ module _ (list : List Made) (L : ListSound list) (i : ℕ) where
   lapsed-below x (inr le) = below-limit (recordAt i list) (x .deadline) (inr (omega (arith, L .sites i .floor)))
 
   -- a message that waits is not ready: some message before it is neither in the log nor lapsed
-  waits-for : (w : Message) → w isIn recordAt i list .waiting
-      → ((x : Name) → Before (sends list) x (nameOf w) → (x isIn logAt i list) ⊎ LapsedAt i list x) → ⊥
-  waits-for w k all =
+  pub waits-for : (w : Message) → w isIn recordAt i list .waiting
+      → (x : Name) × Before (sends list) x (nameOf w) × ¬ (x isIn logAt i list) × (limit (recordAt i list) ≤ x .deadline)
+  waits-for w k =
       let (s, _, above, live) = ready-false (recordAt i list) w (L .sites i .settled w k) in
       go s above live (L .sites i .sound .waits .sent w k)
     where
       go : (s : ℕ) → getD (recordAt i list .marks) s 0 < getD (w .entries) s 0 → limit (recordAt i list) ≤ getD (w .entries) s 0
-          → WasSent (sends list) w → ⊥
-      go s above live (t, j, e) =
-          let G = L .sites i in
-          let b : Before (sends list) (named s (getD (w .entries) s 0)) (nameOf w) =
-          direct t j (ap nameOf e) (rw e at (L .sends-sound .entry t j s (rw e (omega arith)))) in
-          ⊎-elim (λ a. omega (arith, G .sound .summary .below-mark _ a, above)) (λ a. omega (arith, lapsed-below (named s (getD (w .entries) s 0)) a, live)) (all _ b)
+          → WasSent (sends list) w
+          → (x : Name) × Before (sends list) x (nameOf w) × ¬ (x isIn logAt i list) × (limit (recordAt i list) ≤ x .deadline)
+      go s above live (t, j, e) = (
+        named s (getD (w .entries) s 0),
+        direct t j (ap nameOf e) (rw e at (L .sends-sound .entry t j s (rw e (omega arith)))),
+        λ a. omega (arith, L .sites i .sound .summary .below-mark _ a, above),
+        live,
+      )
 
   -- a message sent or taken there, with all that is before it in the log or lapsed, is in the log
   pub whole-logged : (n : Name) → (n isIn sentAt i list) ⊎ (n isIn takenAt i list)
       → ((x : Name) → Before (sends list) x n → (x isIn logAt i list) ⊎ LapsedAt i list x) → n isIn logAt i list
   whole-logged n (inl k) all = L .sites i .sent n k
   whole-logged n (inr k) all =
-      ⊎-elim (λ a. a) (λ a. absurd (waits-for (a .0) (a .1) (λ x b. all x (subst (Before (sends list) x) (a .2) b)))) (L .sites i .taken n k)
+      ⊎-elim (λ a. a)
+      (λ a.
+      let (x, b, out, live) = waits-for (a .0) (a .1) in
+      absurd (⊎-elim out (λ l. omega (arith, lapsed-below x l, live)) (all x (subst (Before (sends list) x) (a .2) b)))) (L .sites i .taken n k)
 
 -- ---- its record
 

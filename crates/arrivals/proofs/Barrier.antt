@@ -1,0 +1,214 @@
+-- The barrier after messages were handed: it goes by which they are and not by their order, where none stands behind one that names it. Assumes
+-- nothing.
+use Prim.Native.Nat.{ℕ, _≤_, _<_, max}
+use native.Mathlib.Decide.{ℕ-discrete, decLt}
+use native.Mathlib.Omega.{arith}
+use mathlib.Core.Path.{_≡_, refl, sym, ap, _∙_, subst, subst⁻¹}
+use mathlib.Core.Logic.{_⊎_, inl, inr, ⊎-elim, _≢_, by-cases}
+use mathlib.Core.Bool.{Bool, true, false, cond}
+use mathlib.Core.List.{List, [], _∷_, map, List·Memᴰ·head as first, List·Memᴰ·tail as later, Memᴰ·map}
+use lib.ListN.{length, getD}
+use lib.Dec.{leb, eqb}
+use borrow.Author.Tests.{leb-true, leb-false, eq-eqb, ne-eqb, eqb-true}
+use Rattle.frame.specs.Message.{Message}
+use Rattle.rules.specs.Panel.{Name, nameOf, Make, oldMake, newMake, Panel}
+use Rattle.rules.specs.Handing.{raise, remains, barrierFor, hand}
+use Rattle.rules.specs.Lists.{_isIn_}
+use Rattle.rules.specs.Lapsing.{markIn}
+use Rattle.rules.proofs.Booleans.{cond-both}
+use Rattle.rules.proofs.Floor.{markIn-ge}
+use Rattle.rules.proofs.Raise.{length-raise, raise-same, raise-other}
+use Rattle.rules.proofs.Shortened.{getD-shortened, length-barrierFor}
+use Rattle.arrivals.proofs.HandAll.{handAll}
+
+-- ---- what a message removes
+
+-- an entry for panel k is removed as w is handed: at a panel of the new make, where it is at most the entry of w
+abbrev pub Removes : Make → Message → ℕ → ℕ → Type 0
+Removes oldMake w k entry = ⊥
+Removes newMake w k entry = entry ≤ getD (w .entries) k 0
+
+removes-not : (make : Make) (w : Message) (k entry : ℕ) → getD (w .entries) k 0 < entry → ¬ Removes make w k entry
+removes-not oldMake w k entry lt r = r
+removes-not newMake w k entry lt r = omega (arith, r)
+
+-- what is left of an entry
+abbrev LeftOf : Make → Message → ℕ → ℕ → ℕ → Type 0
+LeftOf make m k entry left = ((left ≡ entry) × (Removes make m k entry → entry ≡ 0)) ⊎ ((left ≡ 0) × Removes make m k entry)
+
+barrierFor-left : (make : Make) (p : Panel) (m : Message) (k : ℕ) → LeftOf make m k (getD (p .barrier) k 0) (getD (barrierFor make p m) k 0)
+unfolding barrierFor
+barrierFor-left oldMake p m k = inl (refl, λ r. absurd r)
+barrierFor-left newMake p m k =
+    let b = getD (p .barrier) k 0 in
+    let e = getD (m .entries) k 0 in
+    subst⁻¹ (LeftOf newMake m k b) (getD-shortened (p .barrier) (m .entries) k)
+    (cond-both (LeftOf newMake m k b) (leb b e) (λ t. inr (refl, leb-true b e t)) (λ t. inl (refl, λ r. absurd (omega (arith, leb-false b e t, r)))))
+
+left-le : (make : Make) (m : Message) (k entry left : ℕ) → LeftOf make m k entry left → left ≤ entry
+left-le make m k entry left (inl (e, _)) = omega arith
+left-le make m k entry left (inr (e, _)) = omega arith
+
+-- ---- the largest
+
+-- the largest of a barrier's entry for panel k and the deadlines of messages of panel k
+abbrev pub topOf : List ℕ → List Message → ℕ → ℕ
+topOf barrier ms k = max (getD barrier k 0) (markIn (map nameOf ms) k)
+
+-- where there are such messages, the largest is the deadline of one
+largest-of : (ms : List Message) (k : ℕ) → 0 < markIn (map nameOf ms) k → (w : Message) × (w isIn ms) × (w .source ≡ k) × (w .deadline ≡ markIn (map nameOf ms) k)
+unfolding markIn
+largest-of [] k pos = absurd (omega (arith, pos))
+largest-of (m ∷ ms) k pos = go (largest-of ms k) (eqb (m .source) k) refl pos
+  where
+    go : (0 < markIn (map nameOf ms) k → (w : Message) × (w isIn ms) × (w .source ≡ k) × (w .deadline ≡ markIn (map nameOf ms) k))
+        → (b : Bool) → eqb (m .source) k ≡ b → 0 < max (cond b (m .deadline) 0) (markIn (map nameOf ms) k)
+        → (w : Message) × (w isIn m ∷ ms) × (w .source ≡ k) × (w .deadline ≡ max (cond b (m .deadline) 0) (markIn (map nameOf ms) k))
+    go below true e pos =
+        by-cases (decLt (m .deadline) (markIn (map nameOf ms) k))
+        (λ lt. let (w, i, s, d) = below (omega arith) in (w, later i, s, omega arith))
+        (λ ge. (m, first refl, eqb-true (m .source) k e, omega arith))
+    go below false e pos = let (w, i, s, d) = below (omega arith) in (w, later i, s, omega arith)
+
+-- ---- the barrier
+
+-- the entry for panel k is the largest, or was removed by one of the messages
+abbrev pub Exact : Make → List ℕ → List Message → List ℕ → ℕ → Type 0
+Exact make barrier ms b k =
+    ((getD b k 0 ≡ topOf barrier ms k) × ((w : Message) → w isIn ms → Removes make w k (topOf barrier ms k) → topOf barrier ms k ≡ 0))
+    ⊎ ((getD b k 0 ≡ 0) × (w : Message) × (w isIn ms) × Removes make w k (topOf barrier ms k))
+
+-- messages of which none stands behind one that names it, or behind a later one of its source
+abbrev pub Ordered : List Message → Type 0
+Ordered [] = Unit {0}
+Ordered (m ∷ ms) =
+    (getD (m .entries) (m .source) 0 < m .deadline)
+    × ((w : Message) → w isIn ms → (getD (m .entries) (w .source) 0 < w .deadline) × (w .source ≡ m .source → m .deadline < w .deadline)) × Ordered ms
+
+-- and each is later than what the barrier has of its source
+abbrev pub Above : List ℕ → List Message → Type 0
+Above barrier ms = (w : Message) → w isIn ms → (w .source < 64) × (getD barrier (w .source) 0 < w .deadline)
+
+-- one more message in front, where the largest stays and it removes nothing
+carry : (make : Make) (barrier before b : List ℕ) (m : Message) (ms : List Message) (k : ℕ) → topOf before ms k ≡ topOf barrier (m ∷ ms) k
+    → (Removes make m k (topOf barrier (m ∷ ms) k) → topOf barrier (m ∷ ms) k ≡ 0) → Exact make before ms b k → Exact make barrier (m ∷ ms) b k
+carry make barrier before b m ms k e none (inl (v, each)) = inl (v ∙ e, every)
+  where
+    every : (w : Message) → w isIn m ∷ ms → Removes make w k (topOf barrier (m ∷ ms) k) → topOf barrier (m ∷ ms) k ≡ 0
+    every w (first q) r = none (subst (λ x. Removes make x k (topOf barrier (m ∷ ms) k)) q r)
+    every w (later i) r = sym e ∙ each w i (subst⁻¹ (Removes make w k) e r)
+carry make barrier before b m ms k e none (inr (v, w, i, r)) = inr (v, w, later i, subst (Removes make w k) e r)
+
+-- or where it removes the entry
+gone : (make : Make) (barrier before b : List ℕ) (m : Message) (ms : List Message) (k : ℕ) → topOf before ms k ≡ 0
+    → Removes make m k (topOf barrier (m ∷ ms) k) → Exact make before ms b k → Exact make barrier (m ∷ ms) b k
+gone make barrier before b m ms k e r (inl (v, each)) = inr (v ∙ e, m, first refl, r)
+gone make barrier before b m ms k e r (inr (v, _, _, _)) = inr (v, m, first refl, r)
+
+module _ (make : Make) (barrier c b : List ℕ) (m : Message) (ms : List Message) (k : ℕ) (left : LeftOf make m k (getD barrier k 0) (getD c k 0)) where
+  abbrev top : ℕ
+  top = topOf barrier (m ∷ ms) k
+
+  -- an entry of its own source
+  same-source : k ≡ m .source → m .source < length c → getD barrier (m .source) 0 < m .deadline → getD (m .entries) (m .source) 0 < m .deadline
+      → Exact make (raise c m) ms b k → Exact make barrier (m ∷ ms) b k
+  unfolding markIn
+  same-source e range above own X =
+      let le = left-le make m k _ _ left in
+      let here = eq-eqb (m .source) k (sym e) in
+      let raised : getD (raise c m) k 0 ≡ max (getD c (m .source) 0) (m .deadline) = rw e (raise-same c m range) in
+      carry make barrier (raise c m) b m ms k (rw here (omega (arith, raised, le, above, ap (λ (n : ℕ). getD barrier n 0) e, ap (λ (n : ℕ). getD c n 0) e)))
+      (λ r. absurd (removes-not make m k top (rw here (omega (arith, own, ap (λ (n : ℕ). getD (m .entries) n 0) e))) r)) X
+
+  -- an entry of another source
+  other-source : k ≢ m .source → ((w : Message) → w isIn ms → (getD (m .entries) (w .source) 0 < w .deadline) × (getD barrier (w .source) 0 < w .deadline))
+      → Exact make (raise c m) ms b k → Exact make barrier (m ∷ ms) b k
+  unfolding markIn
+  other-source ne each X =
+      let apart = ne-eqb (m .source) k (λ e. ne (sym e)) in
+      let raised = raise-other c m k ne in
+      by-cases (decLt 0 (markIn (map nameOf ms) k))
+      (λ pos. named apart raised (largest-of ms k pos)) (λ none. rest apart raised none left)
+    where
+      named : eqb (m .source) k ≡ false → getD (raise c m) k 0 ≡ getD c k 0
+          → (w : Message) × (w isIn ms) × (w .source ≡ k) × (w .deadline ≡ markIn (map nameOf ms) k) → Exact make barrier (m ∷ ms) b k
+      named apart raised (w, i, s, d) =
+          let (unnamed, above) = each w i in
+          let le = left-le make m k _ _ left in
+          carry make barrier (raise c m) b m ms k
+          (rw apart (omega (arith, raised, le, d, above, ap (λ (n : ℕ). getD barrier n 0) s)))
+          (λ r. absurd (removes-not make m k top (rw apart (omega (arith, d, unnamed, ap (λ (n : ℕ). getD (m .entries) n 0) s))) r)) X
+
+      rest : eqb (m .source) k ≡ false → getD (raise c m) k 0 ≡ getD c k 0 → ¬ (0 < markIn (map nameOf ms) k)
+          → LeftOf make m k (getD barrier k 0) (getD c k 0) → Exact make barrier (m ∷ ms) b k
+      rest apart raised none (inl (e, zero)) =
+          let is : top ≡ getD barrier k 0 = rw apart (omega (arith, none)) in
+          carry make barrier (raise c m) b m ms k (omega (arith, is, raised, e, none)) (λ r. is ∙ zero (subst (Removes make m k) is r)) X
+      rest apart raised none (inr (e, removes)) =
+          let is : top ≡ getD barrier k 0 = rw apart (omega (arith, none)) in
+          gone make barrier (raise c m) b m ms k (omega (arith, raised, e, none)) (subst⁻¹ (Removes make m k) is removes) X
+
+-- one is handed, and the rest behind it
+module _ (p : Panel) (m : Message) (ms : List Message) (len : length (p .barrier) ≡ 64) (above : Above (p .barrier) (m ∷ ms)) (ordered : Ordered (m ∷ ms)) where
+  c : List ℕ
+  c = barrierFor (p .make) p m
+
+  left : (k : ℕ) → LeftOf (p .make) m k (getD (p .barrier) k 0) (getD c k 0)
+  unfolding c
+  left k = barrierFor-left (p .make) p m k
+
+  range : m .source < length c
+  unfolding c
+  range = omega (arith, len, above m (first refl) .0, length-barrierFor (p .make) p m)
+
+  length-after : length (hand p m .barrier) ≡ 64
+  unfolding c hand
+  length-after = length-raise c m ∙ length-barrierFor (p .make) p m ∙ len
+
+  above-after : Above (hand p m .barrier) ms
+  unfolding c hand
+  above-after w i = (above w (later i) .0, by-cases (ℕ-discrete (w .source) (m .source)) same other)
+    where
+      same : w .source ≡ m .source → getD (raise c m) (w .source) 0 < w .deadline
+      same e =
+          rw e (omega (arith, raise-same c m range, left-le (p .make) m (m .source) _ _ (left (m .source)), above m (first refl) .1, ordered .1 w i .1 e))
+
+      other : w .source ≢ m .source → getD (raise c m) (w .source) 0 < w .deadline
+      other ne = omega (arith, raise-other c m (w .source) ne, left-le (p .make) m (w .source) _ _ (left (w .source)), above w (later i) .1)
+
+  exact-after : (b : List ℕ) (k : ℕ) → Exact (p .make) (hand p m .barrier) ms b k → Exact (p .make) (p .barrier) (m ∷ ms) b k
+  unfolding c hand
+  exact-after b k X =
+      by-cases (ℕ-discrete k (m .source))
+      (λ e. same-source (p .make) (p .barrier) c b m ms k (left k) e range (above m (first refl) .1) (ordered .0) X)
+      (λ ne. other-source (p .make) (p .barrier) c b m ms k (left k) ne (λ w i. (ordered .1 w i .0, above w (later i) .1)) X)
+
+-- so it is after any number of them
+pub handAll-exact : (p : Panel) (ms : List Message) → length (p .barrier) ≡ 64 → Above (p .barrier) ms → Ordered ms
+    → (k : ℕ) → Exact (p .make) (p .barrier) ms (handAll p ms .barrier) k
+unfolding handAll hand markIn
+handAll-exact p [] len above ordered k = inl (omega arith, λ w i. elim i [ ])
+handAll-exact p (m ∷ ms) len above ordered k =
+    exact-after p m ms len above ordered (handAll (hand p m) ms .barrier) k
+    (handAll-exact (hand p m) ms (length-after p m ms len above ordered) (above-after p m ms len above ordered) (ordered .2) k)
+
+-- ---- the same messages leave the same barrier
+
+markIn-among : (ms others : List Message) (k : ℕ) → ((w : Message) → w isIn ms → w isIn others) → markIn (map nameOf ms) k ≤ markIn (map nameOf others) k
+markIn-among ms others k among =
+    by-cases (decLt 0 (markIn (map nameOf ms) k))
+    (λ pos. let (w, i, s, d) = largest-of ms k pos in omega (arith, d, rw s at (markIn-ge (map nameOf others) (nameOf w) (Memᴰ·map nameOf (among w i)))))
+    (λ none. omega (arith, none))
+
+pub exact-same : (make : Make) (barrier b c : List ℕ) (ms others : List Message) (k : ℕ) → ((w : Message) → w isIn ms → w isIn others)
+    → ((w : Message) → w isIn others → w isIn ms) → Exact make barrier ms b k → Exact make barrier others c k → getD b k 0 ≡ getD c k 0
+exact-same make barrier b c ms others k there back X Y = go X Y
+  where
+    top : topOf barrier ms k ≡ topOf barrier others k
+    top = omega (arith, markIn-among ms others k there, markIn-among others ms k back)
+
+    go : Exact make barrier ms b k → Exact make barrier others c k → getD b k 0 ≡ getD c k 0
+    go (inl (e, _)) (inl (f, _)) = e ∙ top ∙ sym f
+    go (inl (e, none)) (inr (f, w, i, r)) = e ∙ none w (back w i) (subst⁻¹ (Removes make w k) top r) ∙ sym f
+    go (inr (e, w, i, r)) (inl (f, none)) = e ∙ sym (f ∙ none w (there w i) (subst (Removes make w k) top r))
+    go (inr (e, _, _, _)) (inr (f, _, _, _)) = e ∙ sym f

@@ -1,0 +1,13 @@
+-- Receives in two orders: what they hand, and what it makes of the record.
+pub mod Sets
+pub mod SentFrames
+pub mod Records
+pub mod HandAll
+pub mod Barrier
+pub mod Receiving
+pub mod TurnedDown
+pub mod After
+pub mod Ordering
+pub mod Orders
+pub mod TwoOrders
+pub mod Arrival

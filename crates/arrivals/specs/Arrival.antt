@@ -1,0 +1,77 @@
+-- Document 02, W-206, "Arrival order makes no difference" (`arrival-order` in proofs/Arrival.antt).
+use Prim.Native.Nat.{ℕ, zero, suc, _≤_, _<_}
+use mathlib.Core.Path.{_≡_}
+use mathlib.Core.Logic.{_↔_, _≢_}
+use mathlib.Core.Bool.{cond}
+use mathlib.Core.List.{List, [], _∷_, _++_, Perm, List·Nodup}
+use lib.ListN.{length, take, drop}
+use Rattle.rules.specs.Sizes.{logRecordLength, outputLength}
+use Rattle.rules.specs.Panel.{Make}
+use Rattle.rules.specs.Results.{receive}
+use Rattle.rules.specs.Lists.{_isIn_, Made, on, recordAt, Sent, sends, AllPromised}
+
+-- ---- what is received
+
+-- A receive of this frame at that panel, which is of that make.
+pub record Heard (sent : List Sent) (panel : ℕ) (make : Make) (frame : List ℕ) (made : Made) : Type 0 where
+  pub there : made .at ≡ panel
+  pub of-make : made .make ≡ make
+  pub output : List ℕ
+  pub receives : made .call ≡ receive frame output
+  -- The frame was sent,
+  pub was-sent : (s : Sent) × (s isIn sent) × (s .frame ≡ frame)
+  -- the output is long enough,
+  pub long-enough : outputLength ≤ length output
+  -- and 23 was not answered.
+  pub not-23 : made .result .number ≢ 23
+
+-- Nothing but such receives, of these frames, the latest first.
+abbrev pub AllHeard : List Sent → ℕ → Make → List (List ℕ) → List Made → Type 0
+AllHeard sent panel make [] [] = Unit {0}
+AllHeard sent panel make [] (made ∷ earlier) = ⊥
+AllHeard sent panel make (frame ∷ frames) [] = ⊥
+AllHeard sent panel make (frame ∷ frames) (made ∷ earlier) = Heard sent panel make frame made × AllHeard sent panel make frames earlier
+
+-- the same frames, each however often and in whatever order
+abbrev pub SameFrames : List (List ℕ) → List (List ℕ) → Type 0
+SameFrames one two = (frame : List ℕ) → (frame isIn one) ↔ (frame isIn two)
+
+-- ---- what it ends with
+
+-- so many log records at the start of an output
+unfoldable pub recordsIn : ℕ → List ℕ → List (List ℕ)
+recordsIn zero output = []
+recordsIn (suc count) output = take logRecordLength output ∷ recordsIn count (drop logRecordLength output)
+
+-- the log records of a panel's log, as bytes (their sources and deadlines are `logAt`)
+unfoldable pub recordsAt : ℕ → List Made → List (List ℕ)
+recordsAt panel [] = []
+recordsAt panel (made ∷ earlier) = recordsAt panel earlier ++ cond (on panel made) (recordsIn (made .result .count) (made .result .output)) []
+
+-- The same set: what is in the one is in the other. Each is in it once; so the one is the other in another order.
+pub record SameSet {A : Type 0} (one two : List A) : Type 0 where
+  pub same : (x : A) → (x isIn one) ↔ (x isIn two)
+  pub once : List·Nodup one
+  pub reordered : Perm one two
+
+-- After the one and after the other list a panel has
+pub record SameEnd (panel : ℕ) (one two : List Made) : Type 0 where
+  -- equal time, high, marks and barrier,
+  pub time : recordAt panel one .time ≡ recordAt panel two .time
+  pub high : recordAt panel one .high ≡ recordAt panel two .high
+  pub marks : recordAt panel one .marks ≡ recordAt panel two .marks
+  pub barrier : recordAt panel one .barrier ≡ recordAt panel two .barrier
+  -- equal floor too, which the request leaves open,
+  pub floor : recordAt panel one .floor ≡ recordAt panel two .floor
+  -- the same set of log records and the same set waiting.
+  pub log : SameSet (recordsAt panel one) (recordsAt panel two)
+  pub waiting : SameSet (recordAt panel one .waiting) (recordAt panel two .waiting)
+
+-- ---- the claim
+
+-- From the record that this list leaves at a panel, two orders of receiving the same frames sent in it end alike.
+abbrev pub ArrivalOrder : List Made → Type 0
+ArrivalOrder list =
+    (panel : ℕ) → panel < 64 → (make : Make) (framesOne framesTwo : List (List ℕ)) → SameFrames framesOne framesTwo
+    → (one two : List Made) → AllHeard (sends list) panel make framesOne one → AllHeard (sends list) panel make framesTwo two
+    → AllPromised (one ++ list) → AllPromised (two ++ list) → SameEnd panel (one ++ list) (two ++ list)

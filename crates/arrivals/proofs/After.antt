@@ -9,19 +9,19 @@ use mathlib.Core.List.{List, [], _∷_, _++_, map, map-append, append-assoc, app
 use lib.ListN.{length}
 use borrow.Author.Tests.{eq-eqb}
 use Rattle.frame.specs.Message.{Message}
-use Rattle.frame.specs.Reading.{refusal, messageIn}
+use Rattle.frame.specs.Reading.{messageIn}
 use Rattle.rules.specs.Sizes.{width, outputLength}
 use Rattle.rules.specs.Panel.{Name, nameOf, Make, Panel, ofMake}
 use Rattle.rules.specs.Handing.{logRecord}
 use Rattle.rules.specs.Settling.{Settled}
 use Rattle.rules.specs.Results.{receive, Result, defined}
-use Rattle.rules.specs.Lists.{_isIn_, Made, on, recordAt, givenTo, nameIn, namesIn, logAt, Sent, sends}
+use Rattle.rules.specs.Lists.{_isIn_, Made, on, recordAt, givenTo, nameIn, namesIn, logAt}
 use Rattle.rules.proofs.Ready.{limit, limit-withWaiting}
 use Rattle.rules.proofs.Keeping.{logWith}
 use Rattle.rules.proofs.Sites.{Placed}
-use Rattle.rules.proofs.Steps.{ListSound}
 use Rattle.arrivals.specs.Arrival.{recordsIn, recordsAt}
-use Rattle.arrivals.proofs.HandAll.{bare, handAll, handAll-append, handAll-time, handAll-limit, handAll-ofMake}
+use Rattle.arrivals.proofs.SentFrames.{SentIn}
+use Rattle.arrivals.proofs.HandAll.{bare, handAll, handAll-append, handAll-own, handAll-time, handAll-limit, handAll-ofMake}
 use Rattle.arrivals.proofs.Receiving.{Takeable, Here, Received}
 use Rattle.arrivals.proofs.TurnedDown.{turned-down}
 
@@ -71,6 +71,9 @@ module _ {i : ℕ} {make : Make} {list : List Made} {frames : List (List ℕ)} {
       sym (limit-withWaiting (givenTo i make (heard ++ list)) []) ∙ ap limit (A .panel)
       ∙ handAll-limit (bare (givenTo i make list)) (A .handed) ∙ limit-withWaiting (givenTo i make list) []
 
+  same-own : recordAt i (heard ++ list) .own ≡ recordAt i list .own
+  same-own = ap (λ (q : Panel). q .own) (A .panel) ∙ handAll-own (bare (givenTo i make list)) (A .handed)
+
   pub same-time : recordAt i (heard ++ list) .time ≡ recordAt i list .time
   same-time = ap (λ (q : Panel). q .time) (A .panel) ∙ handAll-time (bare (givenTo i make list)) (A .handed)
 
@@ -89,7 +92,7 @@ none-heard i make list =
 
 -- ---- one more
 
-module _ (list : List Made) (i : ℕ) (number : i < 64) (make : Make) (frames : List (List ℕ)) (heard : List Made) (A : After i make list frames heard) where
+module _ (list : List Made) (i : ℕ) (make : Make) (frames : List (List ℕ)) (heard : List Made) (A : After i make list frames heard) where
   abbrev earlier : List Made
   earlier = heard ++ list
 
@@ -101,11 +104,12 @@ module _ (list : List Made) (i : ℕ) (number : i < 64) (make : Make) (frames : 
 
   -- what can be taken stays what it was
   takeable-now : (w : Message) → Takeable p₀ w → Takeable p w
-  takeable-now w (alive, near) = (omega (arith, same-limit A), omega (arith, same-time A))
+  takeable-now w (own, alive, near) = (omega (arith, same-own A), omega (arith, same-limit A), omega (arith, same-time A))
 
   takeable-then : (w m : Message) → w ≡ m → Takeable p m → Takeable p₀ w
-  takeable-then w m e (alive, near) =
-      let deadline = ap (λ (x : Message). x .deadline) e in (omega (arith, same-limit A, deadline, alive), omega (arith, same-time A, deadline, near))
+  takeable-then w m e (own, alive, near) =
+      let deadline = ap (λ (x : Message). x .deadline) e in
+      (omega (arith, same-own A, own), omega (arith, same-limit A, deadline, alive), omega (arith, same-time A, deadline, near))
 
   module _ (frame output : List ℕ) (last : Made) (there : last .at ≡ i) (promise : last .result ≡ defined p (receive frame output))
       (s : Settled) (R : Received p (messageIn width frame) (defined p (receive frame output)) s) where
@@ -168,8 +172,7 @@ module _ (list : List Made) (i : ℕ) (number : i < 64) (make : Make) (frames : 
         split (inr k) = new (inr (subst (λ (q : Panel). w isIn q .waiting) record-now k))
 
     -- a receive of a frame that was sent, with an output long enough, and not answered with 23
-    module _ (L : ListSound earlier) (sent : (t : Sent) × (t isIn sends earlier) × (t .frame ≡ frame)) (read : refusal width frame ≡ 0)
-        (room : outputLength ≤ length output) (not-23 : last .result .number ≢ 23)
+    module _ (F : SentIn earlier frame) (room : outputLength ≤ length output) (not-23 : last .result .number ≢ 23)
         (unique : (w : Message) → HereAt i (A .handed) earlier w → nameOf w ≡ nameOf m → w ≡ m) where
       placed : Placed (logAt i earlier) (p .waiting) (nameOf m) → (nameOf m isIn logAt i list) ⊎ HereAt i handed now m
       placed (inl k) =
@@ -182,7 +185,7 @@ module _ (list : List Made) (i : ℕ) (number : i < 64) (make : Make) (frames : 
       this-came t =
           by-cases (ℕ-discrete (defined p (receive frame output) .number) 0) (λ z. inr (here-now m (R .taken z)))
           (λ refuses.
-          placed (turned-down earlier L i number make frame output sent read room refuses (subst (λ (r : Result). r .number ≢ 23) promise not-23)
+          placed (turned-down earlier i make frame output F room refuses (subst (λ (r : Result). r .number ≢ 23) promise not-23)
           (takeable-now m t)))
 
       came-now : (f : List ℕ) → f isIn frame ∷ frames → Takeable p₀ (messageIn width f)

@@ -15,10 +15,10 @@ use Rattle.arrivals.proofs.TwoOrders.{handed, logged, waits, high-le, m
 
 -- After every list of demand 3, set-back calls included: two orders of receiving the same frames end alike.
 pub arrival-order : (list : List Made) → Lawful list → AllPromised list → ArrivalOrder list
-arrival-order list lawful promised i number make framesOne framesTwo frames one two all-one all-two promised-one promised-two =
+arrival-order list lawful promised i make framesOne framesTwo frames one two all-one all-two promised-one promised-two =
     let L = list-sound list lawful promised in
-    let O = order list lawful promised i number make framesOne one all-one promised-one in
-    let T = order list lawful promised i number make framesTwo two all-two promised-two in
+    let O = order list lawful promised i make framesOne one all-one promised-one in
+    let T = order list lawful promised i make framesTwo two all-two promised-two in
     let there : (frame : List ℕ) → frame isIn framesOne → frame isIn framesTwo = λ frame. frames frame .0 in
     let back : (frame : List ℕ) → frame isIn framesTwo → frame isIn framesOne = λ frame. frames frame .1 in
     let P = O .sound .sites i .sound .summary in

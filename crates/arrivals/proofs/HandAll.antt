@@ -33,6 +33,11 @@ handAll-append p (m ∷ ms) more = handAll-append (hand p m) ms more
 
 -- ---- what it leaves as it was
 
+pub handAll-own : (p : Panel) (ms : List Message) → handAll p ms .own ≡ p .own
+unfolding handAll hand
+handAll-own p [] = refl
+handAll-own p (m ∷ ms) = handAll-own (hand p m) ms
+
 pub handAll-time : (p : Panel) (ms : List Message) → handAll p ms .time ≡ p .time
 unfolding handAll hand
 handAll-time p [] = refl

@@ -11,3 +11,6 @@ pub mod Ordering
 pub mod Orders
 pub mod TwoOrders
 pub mod Arrival
+pub mod Answers
+pub mod Cases
+pub mod Shams

@@ -1,15 +1,13 @@
 -- An order of receiving frames at a panel, after a list of demand 3: what holds of it alone. Assumes nothing.
-use Prim.Native.Nat.{ℕ, _<_}
+use Prim.Native.Nat.{ℕ}
 use mathlib.Core.Path.{_≡_, sym, ap, _∙_, subst, subst⁻¹}
 use mathlib.Core.Logic.{_⊎_, inl, inr, ⊎-elim}
 use mathlib.Core.List.{List, [], _∷_, _++_, map, List·Memᴰ·append-cases, Memᴰ·append-left, Memᴰ·append-right, Memᴰ·map, Memᴰ·of-map, List·Nodup}
 use Rattle.frame.specs.Message.{Message}
-use Rattle.frame.specs.Reading.{refusal, messageIn}
-use Rattle.frame.proofs.Readable.{Readable}
+use Rattle.frame.specs.Reading.{messageIn}
 use Rattle.rules.specs.Sizes.{width}
 use Rattle.rules.specs.Panel.{Name, nameOf, Make, Panel}
-use Rattle.rules.specs.Results.{defined}
-use Rattle.rules.specs.Lists.{_isIn_, Made, recordAt, givenTo, logAt, Sent, sends, Lawful, AllPromised}
+use Rattle.rules.specs.Lists.{_isIn_, Made, recordAt, givenTo, logAt, sends, Lawful, AllPromised}
 use Rattle.rules.specs.Demand3.{Ahead}
 use Rattle.rules.proofs.Ready.{dead}
 use Rattle.rules.proofs.Sound.{LogSound, WasSent}
@@ -18,7 +16,7 @@ use Rattle.rules.proofs.Steps.{ListSound}
 use Rattle.rules.proofs.Reached.{list-sound}
 use Rattle.arrivals.specs.Arrival.{AllHeard, recordsAt}
 use Rattle.arrivals.proofs.Sets.{names-once, Distinct-once}
-use Rattle.arrivals.proofs.SentFrames.{sent-unique, sends-read, heard-lawful, frames-sent}
+use Rattle.arrivals.proofs.SentFrames.{sent-unique, heard-lawful, frames-sent, sent-in, heard-promised}
 use Rattle.arrivals.proofs.Records.{nameAt, log-names}
 use Rattle.arrivals.proofs.HandAll.{bare}
 use Rattle.arrivals.proofs.Barrier.{Exact, handAll-exact}
@@ -34,21 +32,16 @@ here-sent {i} {make} {list} {frames} {heard} L all A w h =
     (λ (q : FromFrames (givenTo i make list) frames w). subst (WasSent (sends list)) (q .2) (frames-sent (sends list) i make frames heard all (q .0) (q .1)))
     (A .only w h)
 
-after : (list : List Made) → Lawful list → AllPromised list → (i : ℕ) → i < 64 → (make : Make) (frames : List (List ℕ)) (heard : List Made)
+after : (list : List Made) → Lawful list → AllPromised list → (i : ℕ) (make : Make) (frames : List (List ℕ)) (heard : List Made)
     → AllHeard (sends list) i make frames heard → AllPromised (heard ++ list) → After i make list frames heard
-after list lawful promised₀ i number make [] [] all promised = none-heard i make list
-after list lawful promised₀ i number make (frame ∷ frames) (last ∷ heard) (H, all) (promise, promised) =
-    let earlier = heard ++ list in
-    let A = after list lawful promised₀ i number make frames heard all promised in
+after list lawful promised₀ i make [] [] all promised = none-heard i make list
+after list lawful promised₀ i make (frame ∷ frames) (last ∷ heard) (H, all) (promise, promised) =
+    let A = after list lawful promised₀ i make frames heard all promised in
     let L₀ = list-sound list lawful promised₀ in
-    let (lawful′, same) = heard-lawful list lawful i make frames heard all in
-    let L = list-sound earlier lawful′ promised in
-    let sent = subst⁻¹ (λ ss. (s : Sent) × (s isIn ss) × (s .frame ≡ frame)) same (H .was-sent) in
-    let readable = let (s, k, e) = sent in subst (λ bytes. Readable width (messageIn width bytes)) e (L .sends-sound .readable s k) in
-    let read = let (s, k, e) = sent in ap (refusal width) (sym e) ∙ sends-read earlier lawful′ promised s k in
-    let (s, R) = received (givenTo i make earlier) frame (H .output) readable in
-    one-heard list i number make frames heard A frame (H .output) last (H .there)
-    (promise ∙ (λ j. defined (givenTo (H .there j) (H .of-make j) earlier) (H .receives j))) s R L sent read (H .long-enough) (H .not-23)
+    let F = sent-in list lawful i make frame frames last heard (H, all) promised in
+    let (s, R) = received (givenTo i make (heard ++ list)) frame (H .output) (F .readable) in
+    one-heard list i make frames heard A frame (H .output) last (H .there) (heard-promised i make frame last (sends list) (heard ++ list) H promise) s R F
+    (H .long-enough) (H .not-23)
     (λ w h e.
     sent-unique (L₀ .sends-sound) (here-sent L₀ all A w h) (let (t, k, f) = H .was-sent in (t, k, ap (messageIn width) f)) e)
 
@@ -59,11 +52,11 @@ pub record Order (i : ℕ) (make : Make) (list : List Made) (frames : List (List
   pub after : After i make list frames heard
   pub sent : (w : Message) → w isIn after .handed → WasSent (sends list) w
 
-pub order : (list : List Made) → Lawful list → AllPromised list → (i : ℕ) → i < 64 → (make : Make) (frames : List (List ℕ)) (heard : List Made)
+pub order : (list : List Made) → Lawful list → AllPromised list → (i : ℕ) (make : Make) (frames : List (List ℕ)) (heard : List Made)
     → AllHeard (sends list) i make frames heard → AllPromised (heard ++ list) → Order i make list frames heard
-order list lawful promised₀ i number make frames heard all promised =
+order list lawful promised₀ i make frames heard all promised =
     let (lawful′, same) = heard-lawful list lawful i make frames heard all in
-    let A = after list lawful promised₀ i number make frames heard all promised in
+    let A = after list lawful promised₀ i make frames heard all promised in
     record {
       sound = list-sound (heard ++ list) lawful′ promised;
       same-sends = same;

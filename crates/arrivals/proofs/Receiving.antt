@@ -1,5 +1,5 @@
 -- What one receive hands, keeps and takes. Assumes nothing.
-use Prim.Native.Nat.{ℕ, _+_, _≤_}
+use Prim.Native.Nat.{ℕ, _+_, _≤_, _<_}
 use native.Mathlib.Omega.{arith}
 use mathlib.Core.Path.{_≡_, refl, sym, ap, _∙_}
 use mathlib.Core.Logic.{_⊎_, inl, inr, ⊎-elim}
@@ -28,9 +28,9 @@ use Rattle.arrivals.specs.Arrival.{recordsIn}
 use Rattle.arrivals.proofs.Records.{recordsIn-over}
 use Rattle.arrivals.proofs.HandAll.{bare, handAll, receiving-hands}
 
--- a message that can be taken at a panel: alive, and not too far ahead
+-- a message that can be taken at a panel, which has a number below 64: alive, and not too far ahead
 abbrev pub Takeable : Panel → Message → Type 0
-Takeable p m = (limit p ≤ m .deadline) × (m .deadline ≤ p .time + farthestAhead)
+Takeable p m = (p .own < 64) × (limit p ≤ m .deadline) × (m .deadline ≤ p .time + farthestAhead)
 
 -- it was handed, or waits
 abbrev pub Here : Settled → Message → Type 0
@@ -113,7 +113,7 @@ received p bytes output readable =
         records = recordsIn-over (receiving p m .handed) output each;
         hands = receiving-hands p m;
         kept = K .kept;
-        only = λ w h. ⊎-elim (λ i. inl i) (λ q. inr (q, (P .alive, P .near))) (K .only w h);
+        only = λ w h. ⊎-elim (λ i. inl i) (λ q. inr (q, (P .valid .own, P .alive, P .near))) (K .only w h);
         taken = λ _. K .new;
       },
     ))

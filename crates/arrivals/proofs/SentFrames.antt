@@ -1,6 +1,6 @@
 -- Frames that were sent: each reads, and no two messages have one name; and receives of them. Assumes nothing.
 use Prim.Native.Nat.{ℕ}
-use mathlib.Core.Path.{_≡_, refl, sym, ap, _∙_, subst⁻¹}
+use mathlib.Core.Path.{_≡_, refl, sym, ap, _∙_, subst, subst⁻¹}
 use mathlib.Core.Logic.{inl, ⊎-elim}
 use mathlib.Core.List.{List, [], _∷_, _++_, map, List·Memᴰ·head as first, List·Memᴰ·tail as later, List·Memᴰ·eq-of-singleton, List·Memᴰ·append-cases, Memᴰ·of-map}
 use lib.ListN.{length, take}
@@ -8,18 +8,20 @@ use lib.Dec.{eqb}
 use borrow.Author.Tests.{eqb-true}
 use Rattle.frame.specs.Message.{Message}
 use Rattle.frame.specs.Reading.{refusal, messageIn}
+use Rattle.frame.proofs.Readable.{Readable}
 use Rattle.frame.proofs.Passed.{passed-zero, reading-message}
 use Rattle.rules.specs.Sizes.{width}
 use Rattle.rules.specs.Panel.{nameOf, Make, Panel}
 use Rattle.rules.specs.Calls.{newMessage}
-use Rattle.rules.specs.Results.{Call, send, receive, clock, setBack, Result, defined}
+use Rattle.rules.specs.Results.{Call, send, receive, clock, setBack, Result, defined, Promised}
 use Rattle.rules.specs.Lists.{_isIn_, Made, givenTo, framesSent, logAt, Sent, sends, Given, Lawful, AllPromised}
 use Rattle.rules.proofs.Booleans.{cond-both}
 use Rattle.rules.proofs.Cause.{carried, SendsSound}
 use Rattle.rules.proofs.Sound.{WasSent}
+use Rattle.rules.proofs.Steps.{ListSound}
 use Rattle.rules.proofs.Reached.{list-sound}
 use Rattle.rules.proofs.Theorems.{sent-reads}
-use Rattle.arrivals.specs.Arrival.{AllHeard}
+use Rattle.arrivals.specs.Arrival.{Heard, AllHeard}
 
 -- ---- messages
 
@@ -96,3 +98,31 @@ frames-sent ss i make [] [] all frame k = elim k [ ]
 frames-sent ss i make (x ∷ frames) (last ∷ heard) (H, all) frame (first e) =
     let (s, k, f) = H .was-sent in (s, k, ap (messageIn width) (f ∙ sym e))
 frames-sent ss i make (x ∷ frames) (last ∷ heard) (H, all) frame (later k) = frames-sent ss i make frames heard all frame k
+
+-- ---- a frame, and a list of demand 3 that sent it
+
+pub record SentIn (list : List Made) (frame : List ℕ) : Type 0 where
+  pub sound : ListSound list
+  pub sent : (s : Sent) × (s isIn sends list) × (s .frame ≡ frame)
+  pub read : refusal width frame ≡ 0
+  pub readable : Readable width (messageIn width frame)
+
+-- so it is at each of the receives
+pub sent-in : (list : List Made) → Lawful list → (i : ℕ) (make : Make) (frame : List ℕ) (frames : List (List ℕ)) (last : Made) (heard : List Made)
+    → AllHeard (sends list) i make (frame ∷ frames) (last ∷ heard) → AllPromised (heard ++ list) → SentIn (heard ++ list) frame
+sent-in list lawful i make frame frames last heard (H, all) promised =
+    let (lawful′, same) = heard-lawful list lawful i make frames heard all in
+    let L = list-sound (heard ++ list) lawful′ promised in
+    let (s, k, e) = subst⁻¹ (λ ss. (s : Sent) × (s isIn ss) × (s .frame ≡ frame)) same (H .was-sent) in
+    record {
+      sound = L;
+      sent = (s, k, e);
+      read = ap (refusal width) (sym e) ∙ sends-read (heard ++ list) lawful′ promised s k;
+      readable = subst (λ bytes. Readable width (messageIn width bytes)) e (L .sends-sound .readable s k);
+    }
+
+-- and it gave what is defined for it
+pub heard-promised : (i : ℕ) (make : Make) (frame : List ℕ) (last : Made) (ss : List Sent) (earlier : List Made) → (H : Heard ss i make frame last)
+    → Promised (givenTo (last .at) (last .make) earlier) (last .call) (last .result)
+    → last .result ≡ defined (givenTo i make earlier) (receive frame (H .output))
+heard-promised i make frame last ss earlier H promise = promise ∙ (λ j. defined (givenTo (H .there j) (H .of-make j) earlier) (H .receives j))

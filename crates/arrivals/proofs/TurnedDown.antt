@@ -17,7 +17,7 @@ use Rattle.rules.specs.Sizes.{width, outputLength}
 use Rattle.rules.specs.Panel.{Name, nameOf, Make, Panel, lapsed, ready}
 use Rattle.rules.specs.Refusals.{broken, isWaiting, farthestAhead, tooFarAhead, messageChecks, receiveChecks}
 use Rattle.rules.specs.Results.{receive, defined}
-use Rattle.rules.specs.Lists.{_isIn_, Made, recordAt, givenTo, nameIn, logAt, Sent, sends}
+use Rattle.rules.specs.Lists.{_isIn_, Made, recordAt, givenTo, nameIn, logAt, sends}
 use Rattle.rules.proofs.Booleans.{or-either}
 use Rattle.rules.proofs.Ready.{limit, limit-ofMake, lapsed-true, dead-limit}
 use Rattle.rules.proofs.Checks.{false-broken}
@@ -26,6 +26,7 @@ use Rattle.rules.proofs.Sites.{Placed}
 use Rattle.rules.proofs.Steps.{ListSound}
 use Rattle.rules.proofs.Reached.{reached-valid}
 use Rattle.rules.proofs.Results.{defined-number}
+use Rattle.arrivals.proofs.SentFrames.{SentIn}
 use Rattle.arrivals.proofs.Receiving.{Takeable}
 
 -- ---- the checks
@@ -52,7 +53,7 @@ messageChecks-rest : (p : Panel) (m : Message) → eqb (m .source) (p .own) ≡ 
     → (leb (m .deadline) (getD (p .marks) (m .source) 0) || isWaiting m (p .waiting)) ≡ false
     → firstOf (messageChecks p m) ≡ cond (leb 32 (length (p .waiting)) && not (ready p m)) 23 0
 unfolding messageChecks firstOf tooFarAhead
-messageChecks-rest p m own (alive, near) new =
+messageChecks-rest p m own (_, alive, near) new =
     rw (own, alive-not-lapsed p (m .deadline) alive, le-ltb (p .time + farthestAhead) (m .deadline) near, new) refl
 
 receive-number : (p : Panel) (bytes output : List ℕ) → broken p ≡ false → outputLength ≤ length output → refusal width bytes ≡ 0
@@ -63,8 +64,10 @@ receive-number p bytes output whole room read =
 
 -- ---- a receive of a frame that was sent
 
-module _ (earlier : List Made) (L : ListSound earlier) (i : ℕ) (number : i < 64) (make : Make) (bytes output : List ℕ)
-    (sent : (s : Sent) × (s isIn sends earlier) × (s .frame ≡ bytes)) (read : refusal width bytes ≡ 0) (room : outputLength ≤ length output) where
+module _ (earlier : List Made) (i : ℕ) (make : Make) (bytes output : List ℕ) (F : SentIn earlier bytes) (room : outputLength ≤ length output) where
+  abbrev L : ListSound earlier
+  L = F .sound
+
   abbrev p : Panel
   p = givenTo i make earlier
 
@@ -72,15 +75,19 @@ module _ (earlier : List Made) (L : ListSound earlier) (i : ℕ) (number : i < 6
   m = messageIn width bytes
 
   known : Known (sends earlier) (nameOf m)
-  known = let (s, k, e) = sent in (s, k, ap nameIn e)
+  known = let (s, k, e) = F .sent in (s, k, ap nameIn e)
 
-  whole : broken p ≡ false
+  whole : p .own < 64 → broken p ≡ false
   unfolding broken
-  whole = false-broken (recordAt i earlier) (reached-valid earlier L i number)
+  whole own = false-broken (recordAt i earlier) (reached-valid earlier L i (omega (arith, own, L .sites i .own)))
+
+  -- the number is one of the message's
+  pub number-is : p .own < 64 → defined p (receive bytes output) .number ≡ firstOf (messageChecks p m)
+  number-is own = defined-number p (receive bytes output) ∙ receive-number p bytes output (whole own) room (F .read)
 
   -- what its source's mark has reached is in the log
   logged : Takeable p m → m .deadline ≤ getD (p .marks) (m .source) 0 → nameOf m isIn logAt i earlier
-  logged (alive, near) le =
+  logged (_, alive, near) le =
       let r = recordAt i earlier in
       let G = L .sites i .sound in
       let k = G .summary .mark-logged (m .source) (omega (arith, known-deadline (L .sends-sound) known)) in
@@ -94,9 +101,6 @@ module _ (earlier : List Made) (L : ListSound earlier) (i : ℕ) (number : i < 6
   turned-down refuses not-23 takeable =
       go (eqb (m .source) (p .own)) (leb (m .deadline) (getD (p .marks) (m .source) 0) || isWaiting m (p .waiting)) refl refl
     where
-      number-is : defined p (receive bytes output) .number ≡ firstOf (messageChecks p m)
-      number-is = defined-number p (receive bytes output) ∙ receive-number p bytes output whole room read
-
       neither : (full : Bool) → defined p (receive bytes output) .number ≡ cond full 23 0 → ⊥
       neither true e = not-23 e
       neither false e = refuses e
@@ -105,11 +109,11 @@ module _ (earlier : List Made) (L : ListSound earlier) (i : ℕ) (number : i < 6
           → (leb (m .deadline) (getD (p .marks) (m .source) 0) || isWaiting m (p .waiting)) ≡ had
           → Placed (logAt i earlier) (p .waiting) (nameOf m)
       go true had a b =
-          let (s, k, f) = sent in
+          let (s, k, f) = F .sent in
           inl (Memᴰ·cast (sym (ap nameIn f))
           (L .sites i .mine s k (ap (λ bs. nameIn bs .source) f ∙ eqb-true (m .source) (p .own) a ∙ L .sites i .own)))
       go false true a b =
           ⊎-elim (λ le. inl (logged takeable (leb-true (m .deadline) (getD (p .marks) (m .source) 0) le)))
           (λ w. inr (isWaiting-true m (p .waiting) w))
           (or-either (leb (m .deadline) (getD (p .marks) (m .source) 0)) (isWaiting m (p .waiting)) b)
-      go false false a b = absurd (neither (leb 32 (length (p .waiting)) && not (ready p m)) (number-is ∙ messageChecks-rest p m a takeable b))
+      go false false a b = absurd (neither (leb 32 (length (p .waiting)) && not (ready p m)) (number-is (takeable .0) ∙ messageChecks-rest p m a takeable b))

@@ -2,9 +2,10 @@
 use Prim.Native.Nat.{ℕ, zero, suc, _≤_, _<_}
 use mathlib.Core.Path.{_≡_}
 use mathlib.Core.Logic.{_↔_, _≢_}
-use mathlib.Core.Bool.{cond}
+use mathlib.Core.Bool.{Bool, true, cond, _||_}
 use mathlib.Core.List.{List, [], _∷_, _++_, Perm, List·Nodup}
 use lib.ListN.{length, take, drop}
+use lib.Dec.{eqb}
 use Rattle.rules.specs.Sizes.{logRecordLength, outputLength}
 use Rattle.rules.specs.Panel.{Make}
 use Rattle.rules.specs.Results.{receive}
@@ -72,6 +73,15 @@ pub record SameEnd (panel : ℕ) (one two : List Made) : Type 0 where
 -- From the record that this list leaves at a panel, two orders of receiving the same frames sent in it end alike.
 abbrev pub ArrivalOrder : List Made → Type 0
 ArrivalOrder list =
-    (panel : ℕ) → panel < 64 → (make : Make) (framesOne framesTwo : List (List ℕ)) → SameFrames framesOne framesTwo
+    (panel : ℕ) (make : Make) (framesOne framesTwo : List (List ℕ)) → SameFrames framesOne framesTwo
     → (one two : List Made) → AllHeard (sends list) panel make framesOne one → AllHeard (sends list) panel make framesTwo two
     → AllPromised (one ++ list) → AllPromised (two ++ list) → SameEnd panel (one ++ list) (two ++ list)
+
+-- On the way a receive answers 0, or refuses with one of these, which each order may do with other copies.
+abbrev pub onTheWay : ℕ → Bool
+onTheWay number = eqb number 0 || eqb number 20 || eqb number 21 || eqb number 22 || eqb number 32
+
+abbrev pub AnswersOnTheWay : List Made → Type 0
+AnswersOnTheWay list =
+    (panel : ℕ) → panel < 64 → (make : Make) (frames : List (List ℕ)) (heard : List Made) → AllHeard (sends list) panel make frames heard
+    → AllPromised (heard ++ list) → (made : Made) → made isIn heard → onTheWay (made .result .number) ≡ true

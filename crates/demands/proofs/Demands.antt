@@ -1,8 +1,8 @@
 -- The demands, kept by the code. Assumes nothing.
-use mathlib.Core.Path.{_≡_, _∙_}
+use mathlib.Core.Path.{_≡_, _∙_, subst, subst⁻¹}
 use mathlib.Core.Bool.{Bool, true, false}
 use mathlib.Core.Logic.{_≢_}
-use mathlib.Core.List.{List, [], _∷_}
+use mathlib.Core.List.{List, [], _∷_, _++_, map-append, Perm}
 use Prim.Native.Nat.{ℕ, _≤_, _<_}
 use native.Mathlib.Omega.{arith}
 use lib.ListN.{length, getD, take}
@@ -19,7 +19,7 @@ use Rattle.rules.specs.Calls.{newMessage}
 use Rattle.rules.specs.Refusals.{tooFarAhead, Listed, freshNumber}
 use Rattle.rules.specs.Results.{Call, send, receive, outputOf, bufferOf, effectOf, refused, defined}
 use Rattle.visits.specs.Visiting.{Counted, trace}
-use Rattle.rules.specs.Lists.{recordAt, givenTo, sends, Before, Lawful}
+use Rattle.rules.specs.Lists.{_isIn_, Made, recordAt, givenTo, sends, Before, Lawful, AllPromised}
 use Rattle.rules.specs.Lapsing.{floorAt}
 use Rattle.rules.specs.Demand3.{Demand3}
 use Rattle.rules.specs.FarAhead.{FarAhead}
@@ -35,9 +35,13 @@ use Rattle.floors.specs.Floors.{SettingBack, FloorMeaning, isSetBack, neverSetB
 use Rattle.floors.proofs.Floors.{setting-back, floor-counted, floor-meaning, floor-idle}
 use Rattle.floors.proofs.NoFloor.{no-floor-needed}
 use Rattle.floors.proofs.SomeWithout.{some-without-floor}
+use Rattle.arrivals.specs.Arrival.{AllHeard, SameFrames, SameEnd, onTheWay}
+use Rattle.arrivals.proofs.Sets.{permuted-frames}
+use Rattle.arrivals.proofs.Arrival.{arrival-order}
+use Rattle.arrivals.proofs.Answers.{answers-on-the-way}
 use Rattle.exports.proofs.Fresh.{freshRecord-within}
 use Rattle.demands.specs.Beginning.{BeginsInPlace, BeginsByValue}
-use Rattle.demands.specs.Lists.{FarmCall, farm, Follows}
+use Rattle.demands.specs.Lists.{FarmCall, madeIn, farm, Follows}
 use Rattle.demands.proofs.Following.{follows-promised}
 use Rattle.demands.proofs.Calls.{Calls, calls}
 
@@ -104,6 +108,27 @@ pub record Demands (M : Type 1) : Type 2 where
   pub some-without-floor : (keeps : ℕ → Bool) (calls : List (ℕ × Make × Call))
       → ((panel : ℕ) → keeps panel ≡ false → neverSetBack panel (ranWhere keeps calls) ≡ true)
       → Lawful (ranWhere keeps calls) → LogsInOrder (ranWhere keeps calls)
+  -- Document 02, W-206: from the record that a list of demand 3 left at a panel, two orders of receiving the same frames sent in it, at outputs long
+  -- enough and with 23 never answered, end alike. A list of frames in another order has the same frames. On the way a receive answers 0, 20, 21, 22
+  -- or 32.
+  pub arrival-order : (list : List FarmCall) → Follows list → Lawful (farm list) → (panel : ℕ) (make : Make) (framesOne framesTwo : List (List ℕ))
+      → SameFrames framesOne framesTwo → (one two : List FarmCall) → Follows (one ++ list) → Follows (two ++ list)
+      → AllHeard (sends (farm list)) panel make framesOne (farm one) → AllHeard (sends (farm list)) panel make framesTwo (farm two)
+      → SameEnd panel (farm (one ++ list)) (farm (two ++ list))
+  pub permuted-frames : {one two : List (List ℕ)} → Perm one two → SameFrames one two
+  pub answers-on-the-way : (list : List FarmCall) → Lawful (farm list) → (panel : ℕ) → panel < 64 → (make : Make) (frames : List (List ℕ))
+      → (heard : List FarmCall) → Follows (heard ++ list) → AllHeard (sends (farm list)) panel make frames (farm heard)
+      → (made : Made) → made isIn farm heard → onTheWay (made .result .number) ≡ true
+
+-- a list of calls in a farm, and some behind it
+followed : (heard list : List FarmCall) → Follows (heard ++ list) → AllPromised (farm heard ++ farm list)
+followed heard list follows = subst AllPromised (map-append madeIn heard list) (follows-promised (heard ++ list) follows)
+
+end-alike : (panel : ℕ) (one two list : List FarmCall) → SameEnd panel (farm one ++ farm list) (farm two ++ farm list)
+    → SameEnd panel (farm (one ++ list)) (farm (two ++ list))
+end-alike panel one two list same =
+    subst⁻¹ (λ (l : List Made). SameEnd panel l (farm (two ++ list))) (map-append madeIn one list)
+    (subst⁻¹ (SameEnd panel (farm one ++ farm list)) (map-append madeIn two list) same)
 
 -- The code keeps the demands.
 pub demands : {M : Type 1} → Demands M
@@ -136,4 +161,11 @@ demands =
       floor-idle = λ list follows lawful. floor-idle (farm list) lawful (follows-promised list follows);
       no-floor-needed = no-floor-needed;
       some-without-floor = some-without-floor;
+      arrival-order = λ list follows lawful panel make framesOne framesTwo frames one two follows-one follows-two heard-one heard-two.
+          end-alike panel one two list
+          (arrival-order (farm list) lawful (follows-promised list follows) panel make framesOne framesTwo frames (farm one) (farm two) heard-one heard-two
+          (followed one list follows-one) (followed two list follows-two));
+      permuted-frames = permuted-frames;
+      answers-on-the-way = λ list lawful panel number make frames heard follows all.
+          answers-on-the-way (farm list) lawful panel number make frames (farm heard) all (followed heard list follows);
     }

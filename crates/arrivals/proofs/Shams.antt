@@ -13,11 +13,12 @@ use Rattle.rules.specs.Panel.{newMake, Panel, ready}
 use Rattle.rules.specs.Settling.{withWaiting, Settled, handThen, settleIn}
 use Rattle.rules.specs.Refusals.{receiveChecks}
 use Rattle.rules.specs.Results.{Call, send, receive, clock, setBack, Result, refused, done, unless, defined}
-use Rattle.rules.specs.Lists.{_isIn_, Made, givenTo, Sent, sends, ran}
+use Rattle.rules.specs.Lists.{_isIn_, Made, givenTo, Sent, sends, Given, ran}
 use Rattle.rules.specs.Cases.{output, buffer, frameFrom}
 use Rattle.rules.specs.BenchCases.{deadline1, frame1, frame2}
-use Rattle.rules.proofs.Shams.{listsOpened}
+use Rattle.rules.proofs.Shams.{listsOpened, payload-bytes, empty-bytes}
 use Rattle.arrivals.specs.Arrival.{Heard, AllHeard, SameFrames, SameEnd}
+use Rattle.arrivals.proofs.Arrival.{arrival-order}
 
 -- ---- the module
 
@@ -39,22 +40,22 @@ settlesOne p (setBack reading) = defined p (setBack reading)
 pub frame3 : List ℕ
 frame3 = frameFrom (0x03 ∷ 0x00 ∷ 0x00 ∷ 0x1c ∷ 0x86 ∷ replicate 7 0x00) (0x08 ∷ 0x00 ∷ 0x00 ∷ 0x1c ∷ 0x85 ∷ 0x00 ∷ [])
 
-pub threeSent : List Made
-threeSent =
-    ran settlesOne
+pub threeSent : (Panel → Call → Result) → List Made
+threeSent gives =
+    ran gives
     ((3, newMake, send [] 0 output buffer) ∷ (3, newMake, send [] 0 output buffer)
     ∷ (3, newMake, send (0x4f ∷ 0x4b ∷ []) deadline1 output buffer) ∷ [])
 
 -- panel 0 hears this frame
-abbrev pub heardNext : List ℕ → List Made → Made
-heardNext frame earlier =
+abbrev pub heardNext : (Panel → Call → Result) → List ℕ → List Made → Made
+heardNext gives frame earlier =
     let call = receive frame output in
-    record { at = 0; make = newMake; call = call; result = settlesOne (givenTo 0 newMake (earlier ++ threeSent)) call }
+    record { at = 0; make = newMake; call = call; result = gives (givenTo 0 newMake (earlier ++ threeSent gives)) call }
 
 -- and these, the latest first
-pub hears : List (List ℕ) → List Made
-hears [] = []
-hears (frame ∷ frames) = heardNext frame (hears frames) ∷ hears frames
+pub hears : (Panel → Call → Result) → List (List ℕ) → List Made
+hears gives [] = []
+hears gives (frame ∷ frames) = heardNext gives frame (hears gives frames) ∷ hears gives frames
 
 pub asSent : List (List ℕ)
 asSent = frame3 ∷ frame2 ∷ frame1 ∷ []
@@ -70,22 +71,23 @@ shamsOpened = tt
 
 pub same-frames : SameFrames asSent reversed
 unfolding asSent reversed
-same-frames frame = (there, back)
+same-frames frame = (turned frame3 frame2 frame1, turned frame1 frame2 frame3)
   where
-    there : frame isIn frame3 ∷ frame2 ∷ frame1 ∷ [] → frame isIn frame1 ∷ frame2 ∷ frame3 ∷ []
-    there (first e) = later (later (first e))
-    there (later (first e)) = later (first e)
-    there (later (later (first e))) = first e
-
-    back : frame isIn frame1 ∷ frame2 ∷ frame3 ∷ [] → frame isIn frame3 ∷ frame2 ∷ frame1 ∷ []
-    back (first e) = later (later (first e))
-    back (later (first e)) = later (first e)
-    back (later (later (first e))) = first e
+    turned : (x y z : List ℕ) → frame isIn x ∷ y ∷ z ∷ [] → frame isIn z ∷ y ∷ x ∷ []
+    turned x y z (first e) = later (later (first e))
+    turned x y z (later (first e)) = later (first e)
+    turned x y z (later (later (first e))) = first e
 
 -- a receive of a frame that was sent, which is not refused
-heard-next : (frame : List ℕ) (earlier : List Made) → (s : Sent) × (s isIn sends threeSent) × (s .frame ≡ frame)
-    → heardNext frame earlier .result .number ≡ 0 → Heard (sends threeSent) 0 newMake frame (heardNext frame earlier)
-heard-next frame earlier sent taken =
+abbrev SentBy : (Panel → Call → Result) → List ℕ → Type 0
+SentBy gives frame = (s : Sent) × (s isIn sends (threeSent gives)) × (s .frame ≡ frame)
+
+abbrev TakenBy : (Panel → Call → Result) → List ℕ → List (List ℕ) → Type 0
+TakenBy gives frame earlier = heardNext gives frame (hears gives earlier) .result .number ≡ 0
+
+heard-next : (gives : Panel → Call → Result) (frame : List ℕ) (earlier : List (List ℕ)) → SentBy gives frame → TakenBy gives frame earlier
+    → Heard (sends (threeSent gives)) 0 newMake frame (heardNext gives frame (hears gives earlier))
+heard-next gives frame earlier sent taken =
     record {
       there = refl;
       of-make = refl;
@@ -96,28 +98,42 @@ heard-next frame earlier sent taken =
       not-23 = λ e. omega (arith, e, taken);
     }
 
-pub as-sent-heard : AllHeard (sends threeSent) 0 newMake asSent (hears asSent)
-unfolding shamsOpened
-as-sent-heard = (
-  heard-next frame3 (hears (frame2 ∷ frame1 ∷ [])) (_, first refl, refl) refl,
-  (
-    heard-next frame2 (hears (frame1 ∷ [])) (_, later (first refl), refl) refl,
-    (heard-next frame1 [] (_, later (later (first refl)), refl) refl, tt),
-  ),
-)
+-- both orders, of a module with these frames that refuses none of the receives
+abbrev pub BothHeard : (Panel → Call → Result) → Type 0
+BothHeard gives =
+    AllHeard (sends (threeSent gives)) 0 newMake asSent (hears gives asSent) × AllHeard (sends (threeSent gives)) 0 newMake reversed (hears gives reversed)
 
-pub reversed-heard : AllHeard (sends threeSent) 0 newMake reversed (hears reversed)
+both-heard : (gives : Panel → Call → Result) → SentBy gives frame1 × SentBy gives frame2 × SentBy gives frame3
+    → TakenBy gives frame1 [] × TakenBy gives frame2 (frame1 ∷ []) × TakenBy gives frame3 (frame2 ∷ frame1 ∷ [])
+    → TakenBy gives frame3 [] × TakenBy gives frame2 (frame3 ∷ []) × TakenBy gives frame1 (frame2 ∷ frame3 ∷ []) → BothHeard gives
+unfolding hears asSent reversed
+both-heard gives (sent1, sent2, sent3) (a1, a2, a3) (b3, b2, b1) =
+    let next = heard-next gives in (
+      (next frame3 (frame2 ∷ frame1 ∷ []) sent3 a3, (next frame2 (frame1 ∷ []) sent2 a2, (next frame1 [] sent1 a1, tt))),
+      (next frame1 (frame2 ∷ frame3 ∷ []) sent1 b1, (next frame2 (frame3 ∷ []) sent2 b2, (next frame3 [] sent3 b3, tt))),
+    )
+
+pub one-heard : BothHeard settlesOne
 unfolding shamsOpened
-reversed-heard = (
-  heard-next frame1 (hears (frame2 ∷ frame3 ∷ [])) (_, later (later (first refl)), refl) refl,
-  (
-    heard-next frame2 (hears (frame3 ∷ [])) (_, later (first refl), refl) refl,
-    (heard-next frame3 [] (_, first refl, refl) refl, tt),
-  ),
-)
+one-heard =
+    both-heard settlesOne ((_, later (later (first refl)), refl), (_, later (first refl), refl), (_, first refl, refl)) (refl, refl, refl) (refl, refl, refl)
 
 -- ---- and they end otherwise: the third message waits though it is ready
 
-pub settling-one-breaks : ¬ SameEnd 0 (hears asSent ++ threeSent) (hears reversed ++ threeSent)
+pub settling-one-breaks : ¬ SameEnd 0 (hears settlesOne asSent ++ threeSent settlesOne) (hears settlesOne reversed ++ threeSent settlesOne)
 unfolding shamsOpened
 settling-one-breaks same = elim (same .waiting .same _ .1 (first refl)) [ ]
+
+-- ---- With the defined results all is as the theorem says.
+
+pub defined-heard : BothHeard defined
+unfolding shamsOpened
+defined-heard =
+    both-heard defined ((_, later (later (first refl)), refl), (_, later (first refl), refl), (_, first refl, refl)) (refl, refl, refl) (refl, refl, refl)
+
+pub defined-alike : SameEnd 0 (hears defined asSent ++ threeSent defined) (hears defined reversed ++ threeSent defined)
+unfolding hears asSent reversed threeSent Given
+defined-alike =
+    arrival-order (threeSent defined) (empty-bytes, (empty-bytes, (payload-bytes, tt))) (refl, (refl, (refl, tt))) 0 newMake asSent reversed same-frames
+    (hears defined asSent) (hears defined reversed) (defined-heard .0) (defined-heard .1) (refl, (refl, (refl, (refl, (refl, (refl, tt))))))
+    (refl, (refl, (refl, (refl, (refl, (refl, tt))))))

@@ -1,4 +1,19 @@
--- Document 02, W-206, "Arrival order makes no difference" (`arrival-order` in proofs/Arrival.antt).
+-- Document 02, W-206, "Arrival order makes no difference" (`arrival-order` in proofs/Arrival.antt, for every list of demand 3).
+--
+-- Operators at two ends compare logs and ask if something is missing. A panel that hears some frames in one order ends as it does in any other: with
+-- equal time, high, marks, barrier and floor, the same log records and the same waiting messages. Only the order in which these stand may differ; that
+-- of the log is an order of cause, whichever it is (demand 3). A frame may come once in the one and ten times in the other.
+--
+-- What is asked for, and what may happen without it (ArrivalCases.antt has a case for each: two orders that end otherwise, computed by the definitions):
+--   the record is one that a list reaches    caseNotReached: a message waits that is ready, and goes with whatever is taken first
+--   each frame was sent in that list         caseNobodySent: a frame that nobody sent passes one that was sent
+--   no clock call comes between              caseClockBetween: what comes behind it has lapsed (a set-back call: what came ahead of it had)
+--   each output is long enough               caseShortOutput: a receive is refused with 10
+--   23 is never answered                     case23: what is refused with it is taken in the other order
+--   the panel is of one make meanwhile       caseMakeChanged: an entry leaves the barrier only at a panel of the new make
+--
+-- "In W-206 the floor may differ between two orders" (W-207): it can't. It is the largest deadline of a message that the log went without
+-- (`floor-meaning`), and the log has the same messages.
 use Prim.Native.Nat.{ℕ, zero, suc, _≤_, _<_}
 use mathlib.Core.Path.{_≡_}
 use mathlib.Core.Logic.{_↔_, _≢_}

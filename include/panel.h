@@ -104,6 +104,12 @@
  * - What 21 tells a technician: a deadline of at most the floor is never taken here; one above it
  *   has lapsed by the time alone, and may be received again once a wrong time is set back.
  *
+ * The order of arrival. Frames may come in any order, and any number of times. Where panels sent
+ * them, the clock is not called or set back between them, and none is refused with 23, a panel ends
+ * with the same log records, the same waiting messages and the same time, high, marks, barrier and
+ * floor, whatever the order; only the places in log and list may differ. A frame that was refused
+ * with 23 may be received again, and is taken once fewer messages wait or it is ready.
+ *
  * Storing a record. It is plain data without pointers. It may be copied, or saved as its
  * sizeof(Panel) bytes and read back by the same version of this header, or by a later one that says
  * so below (PANEL_VERSION). Go on with the record as the last call left it, never with an older

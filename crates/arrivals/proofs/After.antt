@@ -1,13 +1,11 @@
 -- Some frames are received at a panel, after a list: what they hand, and what is handed or waits then. Assumes nothing.
-use Prim.Native.Nat.{ℕ, _+_, _≤_, _<_}
+use Prim.Native.Nat.{ℕ, _≤_}
 use native.Mathlib.Decide.{ℕ-discrete}
 use native.Mathlib.Omega.{arith}
 use mathlib.Core.Path.{_≡_, refl, sym, ap, _∙_, subst, subst⁻¹}
 use mathlib.Core.Logic.{_⊎_, inl, inr, ⊎-elim, _≢_, by-cases}
-use mathlib.Core.Bool.{true}
 use mathlib.Core.List.{List, [], _∷_, _++_, map, map-append, append-assoc, append-nil, List·Memᴰ·head as first, List·Memᴰ·tail as later, List·Memᴰ·append-cases, Memᴰ·append-left, Memᴰ·append-right, Memᴰ·cast, Memᴰ·of-map}
 use lib.ListN.{length}
-use borrow.Author.Tests.{eq-eqb}
 use Rattle.frame.specs.Message.{Message}
 use Rattle.frame.specs.Reading.{messageIn}
 use Rattle.rules.specs.Sizes.{width, outputLength}
@@ -15,33 +13,16 @@ use Rattle.rules.specs.Panel.{Name, nameOf, Make, Panel, ofMake}
 use Rattle.rules.specs.Handing.{logRecord}
 use Rattle.rules.specs.Settling.{Settled}
 use Rattle.rules.specs.Results.{receive, Result, defined}
-use Rattle.rules.specs.Lists.{_isIn_, Made, on, recordAt, givenTo, nameIn, namesIn, logAt}
+use Rattle.rules.specs.Lists.{_isIn_, Made, recordAt, givenTo, nameIn, namesIn, logAt}
 use Rattle.rules.proofs.Ready.{limit, limit-withWaiting}
 use Rattle.rules.proofs.Keeping.{logWith}
 use Rattle.rules.proofs.Sites.{Placed}
 use Rattle.arrivals.specs.Arrival.{recordsIn, recordsAt}
 use Rattle.arrivals.proofs.SentFrames.{SentIn}
+use Rattle.arrivals.proofs.Records.{record-here, log-here, records-here}
 use Rattle.arrivals.proofs.HandAll.{bare, handAll, handAll-append, handAll-own, handAll-time, handAll-limit, handAll-ofMake}
 use Rattle.arrivals.proofs.Receiving.{Takeable, Here, Received}
 use Rattle.arrivals.proofs.TurnedDown.{turned-down}
-
--- ---- the words for a panel, one call later
-
-module _ (i : ℕ) (last : Made) (earlier : List Made) (there : last .at ≡ i) where
-  here : on i last ≡ true
-  here = eq-eqb i (last .at) (sym there)
-
-  record-here : recordAt i (last ∷ earlier) ≡ last .result .panel
-  unfolding recordAt
-  record-here = rw here refl
-
-  log-here : logAt i (last ∷ earlier) ≡ logAt i earlier ++ namesIn (last .result .count) (last .result .output)
-  unfolding logAt
-  log-here = rw here refl
-
-  records-here : recordsAt i (last ∷ earlier) ≡ recordsAt i earlier ++ recordsIn (last .result .count) (last .result .output)
-  unfolding recordsAt
-  records-here = rw here refl
 
 -- ---- what holds after the receives
 

@@ -1,7 +1,6 @@
 -- What receives of frames that were sent answer on the way. Assumes nothing.
-use Prim.Native.Nat.{ℕ, _<_}
 use native.Mathlib.Omega.{arith}
-use mathlib.Core.Path.{_≡_, refl, ap, _∙_, subst⁻¹}
+use mathlib.Core.Path.{_≡_, refl, ap, _∙_}
 use mathlib.Core.Logic.{⊎-elim, _≢_}
 use mathlib.Core.Bool.{true, _||_}
 use mathlib.Core.List.{List, [], _∷_, _++_, List·Memᴰ·head as first, List·Memᴰ·tail as later}
@@ -13,7 +12,7 @@ use Rattle.frame.proofs.FirstOf.{eachNumber, firstOf-each}
 use Rattle.rules.specs.Panel.{Panel}
 use Rattle.rules.specs.Refusals.{messageChecks}
 use Rattle.rules.specs.Results.{Result}
-use Rattle.rules.specs.Lists.{Made, sends, Lawful, AllPromised}
+use Rattle.rules.specs.Lists.{Made, sends, Lawful}
 use Rattle.rules.proofs.Booleans.{or-either}
 use Rattle.arrivals.specs.Arrival.{onTheWay, AnswersOnTheWay}
 use Rattle.arrivals.proofs.SentFrames.{sent-in, heard-promised}

@@ -3,6 +3,7 @@ pub mod Sets
 pub mod SentFrames
 pub mod Records
 pub mod HandAll
+pub mod Removing
 pub mod Barrier
 pub mod Receiving
 pub mod TurnedDown

@@ -1,14 +1,14 @@
 -- In the order of a log, none stands behind one that names it, or behind a later one of its source. Assumes nothing.
-use Prim.Native.Nat.{ℕ, _≤_, _<_}
+use Prim.Native.Nat.{ℕ, _<_}
 use native.Mathlib.Decide.{decLt}
 use native.Mathlib.Omega.{arith}
-use mathlib.Core.Path.{_≡_, refl, sym, ap, subst, subst⁻¹}
-use mathlib.Core.Logic.{_⊎_, inl, inr, ⊎-elim, by-cases}
-use mathlib.Core.List.{List, [], _∷_, _++_, map, List·Memᴰ·head as first, List·Memᴰ·tail as later, Memᴰ·append-left, Memᴰ·append-right, Memᴰ·cast, Memᴰ·map}
-use lib.ListN.{length, getD}
+use mathlib.Core.Path.{_≡_, refl, sym, subst, subst⁻¹}
+use mathlib.Core.Logic.{inl, inr, ⊎-elim, by-cases}
+use mathlib.Core.List.{List, [], _∷_, _++_, map, List·Memᴰ·head as first, List·Memᴰ·tail as later, Memᴰ·append-left, Memᴰ·append-right, Memᴰ·map}
+use lib.ListN.{getD}
 use lib.Seq.{append-snoc}
 use Rattle.frame.specs.Message.{Message}
-use Rattle.rules.specs.Panel.{Name, nameOf, Panel}
+use Rattle.rules.specs.Panel.{Name, nameOf}
 use Rattle.rules.specs.Lists.{_isIn_, Sent}
 use Rattle.rules.specs.Demand3.{Ahead}
 use Rattle.rules.proofs.Cause.{Known, SendsSound, source-order, known-source, known-deadline}

@@ -1,18 +1,19 @@
--- The log records of a panel: those of an output, and that their sources and deadlines are the log. Assumes nothing.
-use Prim.Native.Nat.{ℕ, zero, suc, _+_, _≤_, _<_}
+-- The log records of a panel: those of an output, that their sources and deadlines are the log, and those after one more call. Assumes nothing.
+use Prim.Native.Nat.{ℕ, zero, suc}
 use native.Mathlib.Omega.{arith}
 use mathlib.Core.Path.{_≡_, refl, sym, ap, _∙_}
 use mathlib.Core.Bool.{Bool, true, false, cond}
 use mathlib.Core.List.{List, [], _∷_, _++_, map, map-append, append-assoc, List·Memᴰ·head as first, List·Memᴰ·tail as later}
 use lib.ListN.{length, take, drop}
 use lib.Seq.{take-nil, take-take, take-at, drop-at}
+use borrow.Author.Tests.{eq-eqb}
 use Rattle.numbers.specs.Numbers.{number, numberAt}
 use Rattle.numbers.specs.Buffer.{over}
 use Rattle.frame.specs.Message.{Message}
 use Rattle.rules.specs.Sizes.{width, logRecordLength}
 use Rattle.rules.specs.Panel.{Name}
 use Rattle.rules.specs.Handing.{logRecord, logRecords}
-use Rattle.rules.specs.Lists.{_isIn_, Made, on, namesIn, logAt}
+use Rattle.rules.specs.Lists.{Made, on, recordAt, namesIn, logAt}
 use Rattle.rules.proofs.LogRecords.{EachReadable, length-logRecord}
 use Rattle.rules.proofs.Cause.{name-path}
 use Rattle.arrivals.specs.Arrival.{recordsIn, recordsAt}
@@ -66,3 +67,21 @@ log-names panel (made ∷ earlier) =
         ≡ map nameAt (cond b (recordsIn (made .result .count) (made .result .output)) [])
     here true = namesIn-recordsIn (made .result .count) (made .result .output)
     here false = refl
+
+-- ---- the words for a panel, one call later
+
+module _ (i : ℕ) (last : Made) (earlier : List Made) (there : last .at ≡ i) where
+  here : on i last ≡ true
+  here = eq-eqb i (last .at) (sym there)
+
+  pub record-here : recordAt i (last ∷ earlier) ≡ last .result .panel
+  unfolding recordAt
+  record-here = rw here refl
+
+  pub log-here : logAt i (last ∷ earlier) ≡ logAt i earlier ++ namesIn (last .result .count) (last .result .output)
+  unfolding logAt
+  log-here = rw here refl
+
+  pub records-here : recordsAt i (last ∷ earlier) ≡ recordsAt i earlier ++ recordsIn (last .result .count) (last .result .output)
+  unfolding recordsAt
+  records-here = rw here refl

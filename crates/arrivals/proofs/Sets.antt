@@ -6,7 +6,7 @@ use mathlib.Core.Logic.{inl, inr, ∥∥₁-map, ∥∥₁-elim}
 use mathlib.Core.HLevel.{⊥-prop}
 use mathlib.Core.List.{List, [], _∷_, map, List·Memᴰ, List·Memᴰ·head as first, List·Memᴰ·tail as later, Memᴰ·map, List·Mem, List-discrete, Perm, Perm·mem-iff, List·Nodup, nodup-nil, nodup-cons, perm-ext-iff-of-nodup}
 use Rattle.frame.specs.Message.{Message}
-use Rattle.rules.specs.Panel.{Name, nameOf}
+use Rattle.rules.specs.Panel.{Name}
 use Rattle.rules.specs.Lists.{_isIn_}
 use Rattle.rules.specs.Demand3.{Ahead}
 use Rattle.rules.proofs.WaitingList.{Distinct}

@@ -2,11 +2,11 @@
 use Prim.Native.Nat.{ℕ, _+_, _≤_, _<_}
 use native.Mathlib.Omega.{arith}
 use mathlib.Core.Path.{_≡_, refl, sym, ap, _∙_}
-use mathlib.Core.Logic.{_⊎_, inl, inr, ⊎-elim, _≢_}
+use mathlib.Core.Logic.{inl, inr, ⊎-elim, _≢_}
 use mathlib.Core.Bool.{Bool, true, false, cond, not, _&&_, _||_, false≢true}
 use mathlib.Core.List.{List, [], _∷_, List·Memᴰ·head as first, List·Memᴰ·tail as later, Memᴰ·cast}
 use lib.ListN.{length, getD}
-use lib.Dec.{leb, ltb, eqb}
+use lib.Dec.{leb, eqb}
 use borrow.Author.Tests.{eqb-true, leb-true, le-ltb}
 use Rattle.frame.specs.Message.{Message}
 use Rattle.frame.specs.Refusal.{firstOf}
@@ -14,7 +14,7 @@ use Rattle.frame.specs.Reading.{checks, refusal, messageIn}
 use Rattle.frame.proofs.Conjunction.{and-both}
 use Rattle.frame.proofs.FirstOf.{eachNumber, firstOf-right}
 use Rattle.rules.specs.Sizes.{width, outputLength}
-use Rattle.rules.specs.Panel.{Name, nameOf, Make, Panel, lapsed, ready}
+use Rattle.rules.specs.Panel.{nameOf, Make, Panel, lapsed, ready}
 use Rattle.rules.specs.Refusals.{broken, isWaiting, farthestAhead, tooFarAhead, messageChecks, receiveChecks}
 use Rattle.rules.specs.Results.{receive, defined}
 use Rattle.rules.specs.Lists.{_isIn_, Made, recordAt, givenTo, nameIn, logAt, sends}

@@ -2,7 +2,7 @@
 -- Panel 3 sends "OK", deadline 7300, and then an empty message, deadline 7301, which names it (cases 1 and 2); panel 5 sends an empty message,
 -- deadline 7400. The panel that hears them is panel 0.
 use Prim.Native.Nat.{ℕ, zero, suc}
-use mathlib.Core.List.{List, [], _∷_, _++_}
+use mathlib.Core.List.{List, [], _∷_}
 use lib.ListN.{replicate}
 use Rattle.frame.specs.Message.{Message, messageOf}
 use Rattle.rules.specs.Panel.{oldMake, Panel, ofMake, none64}

@@ -51,7 +51,7 @@ entriesSent-sent {ss} S m (s, i, e) =
 
 -- ---- the marks are those of the log
 
-pub markIn-le : (log : List Name) (k above : ℕ) → ((x : Name) → x isIn log → x .source ≡ k → x .deadline ≤ above) → markIn log k ≤ above
+markIn-le : (log : List Name) (k above : ℕ) → ((x : Name) → x isIn log → x .source ≡ k → x .deadline ≤ above) → markIn log k ≤ above
 unfolding markIn
 markIn-le [] k above each = omega arith
 markIn-le (n ∷ log) k above each =

@@ -7,10 +7,12 @@
 -- What is asked for, and what may happen without it (ArrivalCases.antt has a case for each: two orders that end otherwise, computed by the definitions):
 --   the record is one that a list reaches    caseNotReached: a message waits that is ready, and goes with whatever is taken first
 --   each frame was sent in that list         caseNobodySent: a frame that nobody sent passes one that was sent
---   no clock call comes between              caseClockBetween: what comes behind it has lapsed (a set-back call: what came ahead of it had)
+--   no clock call comes between              caseClockBetween: what comes behind it has lapsed (behind a set-back call, what came ahead of it had)
 --   each output is long enough               caseShortOutput: a receive is refused with 10
 --   23 is never answered                     case23: what is refused with it is taken in the other order
 --   the panel is of one make meanwhile       caseMakeChanged: an entry leaves the barrier only at a panel of the new make
+--
+-- No other call comes between either: a send names what has come by then.
 --
 -- "In W-206 the floor may differ between two orders" (W-207): it can't. It is the largest deadline of a message that the log went without
 -- (`floor-meaning`), and the log has the same messages.
@@ -59,12 +61,13 @@ unfoldable pub recordsIn : ℕ → List ℕ → List (List ℕ)
 recordsIn zero output = []
 recordsIn (suc count) output = take logRecordLength output ∷ recordsIn count (drop logRecordLength output)
 
--- the log records of a panel's log, as bytes (their sources and deadlines are `logAt`)
+-- a panel's log as bytes: the log records that the calls there wrote (`log-names`: their sources and deadlines are `logAt`)
 unfoldable pub recordsAt : ℕ → List Made → List (List ℕ)
 recordsAt panel [] = []
 recordsAt panel (made ∷ earlier) = recordsAt panel earlier ++ cond (on panel made) (recordsIn (made .result .count) (made .result .output)) []
 
--- The same set: what is in the one is in the other. Each is in it once; so the one is the other in another order.
+-- The same set: what is in the one is in the other. Each is in it once, so that the one is the other in another order. (`List·Nodup` and `Perm` are
+-- the library's: none twice, and a permutation.)
 pub record SameSet {A : Type 0} (one two : List A) : Type 0 where
   pub same : (x : A) → (x isIn one) ↔ (x isIn two)
   pub once : List·Nodup one

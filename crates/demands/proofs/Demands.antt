@@ -1,8 +1,8 @@
 -- The demands, kept by the code. Assumes nothing.
-use mathlib.Core.Path.{_≡_, _∙_, subst, subst⁻¹}
+use mathlib.Core.Path.{_≡_, _∙_}
 use mathlib.Core.Bool.{Bool, true, false}
 use mathlib.Core.Logic.{_≢_}
-use mathlib.Core.List.{List, [], _∷_, _++_, map-append, Perm}
+use mathlib.Core.List.{List, [], _∷_, _++_, Perm}
 use Prim.Native.Nat.{ℕ, _≤_, _<_}
 use native.Mathlib.Omega.{arith}
 use lib.ListN.{length, getD, take}
@@ -19,7 +19,7 @@ use Rattle.rules.specs.Calls.{newMessage}
 use Rattle.rules.specs.Refusals.{tooFarAhead, Listed, freshNumber}
 use Rattle.rules.specs.Results.{Call, send, receive, outputOf, bufferOf, effectOf, refused, defined}
 use Rattle.visits.specs.Visiting.{Counted, trace}
-use Rattle.rules.specs.Lists.{_isIn_, Made, recordAt, givenTo, sends, Before, Lawful, AllPromised}
+use Rattle.rules.specs.Lists.{_isIn_, Made, recordAt, givenTo, sends, Before, Lawful}
 use Rattle.rules.specs.Lapsing.{floorAt}
 use Rattle.rules.specs.Demand3.{Demand3}
 use Rattle.rules.specs.FarAhead.{FarAhead}
@@ -37,12 +37,11 @@ use Rattle.floors.proofs.NoFloor.{no-floor-needed}
 use Rattle.floors.proofs.SomeWithout.{some-without-floor}
 use Rattle.arrivals.specs.Arrival.{AllHeard, SameFrames, SameEnd, onTheWay}
 use Rattle.arrivals.proofs.Sets.{permuted-frames}
-use Rattle.arrivals.proofs.Arrival.{arrival-order}
-use Rattle.arrivals.proofs.Answers.{answers-on-the-way}
 use Rattle.exports.proofs.Fresh.{freshRecord-within}
 use Rattle.demands.specs.Beginning.{BeginsInPlace, BeginsByValue}
-use Rattle.demands.specs.Lists.{FarmCall, madeIn, farm, Follows}
+use Rattle.demands.specs.Lists.{FarmCall, farm, Follows}
 use Rattle.demands.proofs.Following.{follows-promised}
+use Rattle.demands.proofs.Arriving.{farm-arrival-order, farm-answers}
 use Rattle.demands.proofs.Calls.{Calls, calls}
 
 pub record Demands (M : Type 1) : Type 2 where
@@ -120,16 +119,6 @@ pub record Demands (M : Type 1) : Type 2 where
       → (heard : List FarmCall) → Follows (heard ++ list) → AllHeard (sends (farm list)) panel make frames (farm heard)
       → (made : Made) → made isIn farm heard → onTheWay (made .result .number) ≡ true
 
--- a list of calls in a farm, and some behind it
-followed : (heard list : List FarmCall) → Follows (heard ++ list) → AllPromised (farm heard ++ farm list)
-followed heard list follows = subst AllPromised (map-append madeIn heard list) (follows-promised (heard ++ list) follows)
-
-end-alike : (panel : ℕ) (one two list : List FarmCall) → SameEnd panel (farm one ++ farm list) (farm two ++ farm list)
-    → SameEnd panel (farm (one ++ list)) (farm (two ++ list))
-end-alike panel one two list same =
-    subst⁻¹ (λ (l : List Made). SameEnd panel l (farm (two ++ list))) (map-append madeIn one list)
-    (subst⁻¹ (SameEnd panel (farm one ++ farm list)) (map-append madeIn two list) same)
-
 -- The code keeps the demands.
 pub demands : {M : Type 1} → Demands M
 demands =
@@ -161,11 +150,7 @@ demands =
       floor-idle = λ list follows lawful. floor-idle (farm list) lawful (follows-promised list follows);
       no-floor-needed = no-floor-needed;
       some-without-floor = some-without-floor;
-      arrival-order = λ list follows lawful panel make framesOne framesTwo frames one two follows-one follows-two heard-one heard-two.
-          end-alike panel one two list
-          (arrival-order (farm list) lawful (follows-promised list follows) panel make framesOne framesTwo frames (farm one) (farm two) heard-one heard-two
-          (followed one list follows-one) (followed two list follows-two));
+      arrival-order = farm-arrival-order;
       permuted-frames = permuted-frames;
-      answers-on-the-way = λ list lawful panel number make frames heard follows all.
-          answers-on-the-way (farm list) lawful panel number make frames (farm heard) all (followed heard list follows);
+      answers-on-the-way = farm-answers;
     }

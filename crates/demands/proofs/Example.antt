@@ -23,31 +23,31 @@ use Rattle.demands.specs.Functions.{Ran, panel-clock-parts, panel-set-ba
 use Rattle.demands.specs.Lists.{FarmCall, module-call, other-call, farm, Follows}
 
 -- something lent, with this value
-abbrev lent : {X : Type 0} → X → RefT X
+abbrev pub lent : {X : Type 0} → X → RefT X
 lent value = record { ptr = (0, 0); name = 0; now = value }
 
-abbrev zeros : List ℕ
+abbrev pub zeros : List ℕ
 zeros = replicate slotsLength 0
 
 -- the lifetime of something lent: nobody looks at it
-abbrev some : List ℕ
+abbrev pub some : List ℕ
 some = []
 
 -- panel 3 as a struct, by its time, high, marks and barrier
 abbrev panel3 : ℕ → ℕ → List ℕ → List ℕ → Panel
 panel3 time high marks barrier = record { own = 3; time = time; high = high; count = 0; marks = marks; barrier = barrier; slots = zeros; floor = 0 }
 
-abbrev only3 : ℕ → List ℕ
+abbrev pub only3 : ℕ → List ℕ
 only3 deadline = of ((3, deadline) ∷ [])
 
-opened : Unit {0}
+unfoldable pub opened : Unit {0}
 unfolding callsOpened fresh frame1 frame2 held upFrom recordAt framesSent sends namesIn logAt Given
 opened = tt
 
 -- Each call: lifetimes, what is given, the answer, what is lent as the call ends, and that the promise holds of these.
 
 -- panel 3's clock shows a wrong year
-clocked : (run : Run) × Ran run
+pub clocked : (run : Run) × Ran run
 unfolding opened
 clocked = (
   _,
@@ -62,7 +62,7 @@ clocked = (
 )
 
 -- it is set back to 100
-setBackTo100 : (run : Run) × Ran run
+pub setBackTo100 : (run : Run) × Ran run
 unfolding opened
 setBackTo100 = (
   _,
@@ -77,7 +77,7 @@ setBackTo100 = (
 )
 
 -- and once more, with a later reading: the time stays
-setBackAgain : (run : Run) × Ran run
+pub setBackAgain : (run : Run) × Ran run
 unfolding opened
 setBackAgain = (
   _,
@@ -92,7 +92,7 @@ setBackAgain = (
 )
 
 -- it sends 4F 4B with lifetime 0
-sent : (run : Run) × Ran run
+pub sent : (run : Run) × Ran run
 unfolding opened
 sent = (
   _,
@@ -107,7 +107,7 @@ sent = (
 )
 
 -- then a beacon of no bytes: time + 1,200 is below high + 1, so it has the deadline and the frame of case 2
-beaconed : (run : Run) × Ran run
+pub beaconed : (run : Run) × Ran run
 unfolding opened
 beaconed = (
   _,
@@ -122,7 +122,7 @@ beaconed = (
 )
 
 -- and panel 0 receives the first frame
-received : (run : Run) × Ran run
+unfoldable pub received : (run : Run) × Ran run
 unfolding opened
 received = (
   _,
@@ -169,45 +169,41 @@ answered = (
   ),
 )
 
+-- ---- the lists
+
+-- the calls of panel 3
+unfoldable pub from3 : List FarmCall
+from3 =
+    module-call (beaconed .0) ∷ module-call (sent .0) ∷ module-call (setBackAgain .0) ∷ module-call (setBackTo100 .0) ∷ module-call (clocked .0) ∷ []
+
+unfoldable pub from3Opened : Unit {0}
+unfolding opened clocked setBackTo100 setBackAgain sent beaconed from3
+from3Opened = tt
+
+pub from3-follows : Follows from3
+unfolding from3Opened
+from3-follows = (refl, beaconed .1, (refl, sent .1, (refl, setBackAgain .1, (refl, setBackTo100 .1, (refl, clocked .1, tt)))))
+
+pub from3-lawful : Lawful (farm from3)
+unfolding from3Opened
+from3-lawful = (empty-bytes, (payload-bytes, (tt, (tt, (tt, tt)))))
+
+-- and then those of the others
 pub example : List FarmCall
-example =
-    module-call (answered .0) ∷ other-call oldSent ∷ other-call oldHeard ∷ module-call (received .0) ∷ module-call (beaconed .0)
-    ∷ module-call (sent .0) ∷ module-call (setBackAgain .0) ∷ module-call (setBackTo100 .0) ∷ module-call (clocked .0) ∷ []
+example = module-call (answered .0) ∷ other-call oldSent ∷ other-call oldHeard ∷ module-call (received .0) ∷ from3
 
 exampleOpened : Unit {0}
-unfolding opened clocked setBackTo100 setBackAgain sent beaconed received old1 oldHeard oldSent answerFrame answered example
+unfolding from3Opened received old1 oldHeard oldSent answerFrame answered example
 exampleOpened = tt
 
 pub example-follows : Follows example
 unfolding exampleOpened
-example-follows = (
-  refl,
-  answered .1,
-  (
-    refl,
-    (
-      refl,
-      (
-        refl,
-        received .1,
-        (
-          refl,
-          beaconed .1,
-          (
-            refl,
-            sent .1,
-            (refl, setBackAgain .1, (refl, setBackTo100 .1, (refl, clocked .1, tt))),
-          ),
-        ),
-      ),
-    ),
-  ),
-)
+example-follows = (refl, answered .1, (refl, (refl, (refl, received .1, from3-follows))))
 
 pub example-lawful : Lawful (farm example)
 unfolding exampleOpened
 example-lawful =
-    (inl (_, first refl, refl), (empty-bytes, (inl (_, later (first refl), refl), (inl (_, later (first refl), refl), (empty-bytes, (payload-bytes, (tt, (tt, (tt, tt)))))))))
+    (inl (_, first refl, refl), (empty-bytes, (inl (_, later (first refl), refl), (inl (_, later (first refl), refl), from3-lawful))))
 
 -- panel 3's log then holds its note and its beacon, and the other two logs the note and the answer
 pub example-logs : (logAt 3 (farm example) ≡ hold ∷ lifted ∷ []) × (logAt 1 (farm example) ≡ hold ∷ answer ∷ [])

@@ -104,6 +104,17 @@ impl Claims {
         self.frames.insert(frame.to_vec(), message);
     }
 
+    /// Whether a message of this source and deadline stands in the log of a panel.
+    pub fn stands(&self, panel: usize, source: u8, deadline: u32) -> bool {
+        let known = self.known.get(&(source, deadline));
+        known.is_some_and(|message| self.panels[panel].logged.has(*message))
+    }
+
+    /// Whether a set back lowered the time of a panel.
+    pub fn was_set_back(&self, panel: usize) -> bool {
+        self.panels[panel].floors.lowered > 0
+    }
+
     /// The floor of a panel.
     pub fn floor(&self, panel: usize) -> u32 {
         self.panels[panel].floor

@@ -1,5 +1,6 @@
 //! How often each number was answered, and counts that show that the lists do what they should.
 
+use crate::arrivals::Arrivals;
 use crate::calls::Call;
 use crate::lists::Done;
 use crate::module::Record;
@@ -47,6 +48,7 @@ pub struct Counts {
     tests: [[u64; VISITS]; 2],
     most_visited: usize,
     lists: Done,
+    arrivals: Arrivals,
     of_records: OfRecords,
     /// What was seen beside shadows in lists of demand 3, and in others.
     beside_shadows: [BesideShadows; 2],
@@ -64,8 +66,11 @@ impl Counts {
         self.count(7, number);
     }
 
-    pub fn lists(&mut self, done: &Done) {
+    /// What was done in the lists of the part that has the claims checked, and in those with
+    /// arrivals.
+    pub fn lists(&mut self, done: &Done, with_arrivals: &Done) {
         self.lists = *done;
+        self.arrivals = with_arrivals.arrivals;
     }
 
     /// Counts a call that was made on a record of the module.
@@ -202,7 +207,7 @@ impl Counts {
     }
 
     /// The counts that have to come up, in groups.
-    fn groups(&self) -> [(&'static str, Rows); 5] {
+    fn groups(&self) -> [(&'static str, Rows); 6] {
         let [lawful, forged] = &self.beside_shadows;
         [
             ("in all parts", self.of_records.rows()),
@@ -215,6 +220,10 @@ impl Counts {
             (
                 "in lists with forged frames, beside shadows of the old make",
                 forged.rows(true),
+            ),
+            (
+                "in two orders, beside lists of demand 3",
+                self.arrivals.rows(),
             ),
         ]
     }

@@ -5,13 +5,13 @@ use crate::claims::{Claims, Spoken};
 use crate::compose;
 use crate::lists::Done;
 use crate::member::Member;
-use crate::plan::{Order, Plan};
+use crate::plan::Plan;
 use crate::random::Random;
 use crate::second::{Answer, Make, FARTHEST_AHEAD, FRAME, OUTPUT};
 use crate::side::{Found, Side};
 
 pub struct Farm<'side, S: Side> {
-    side: &'side mut S,
+    pub side: &'side mut S,
     pub random: Random,
     pub plan: Plan,
     pub members: Vec<Member<S::Panel>>,
@@ -83,6 +83,7 @@ impl<'side, S: Side> Farm<'side, S> {
         if self.done.calls <= 40 || self.random.chance(2) {
             self.check_claims()?;
         }
+        self.arrive(place)?;
         Ok(answer)
     }
 
@@ -96,7 +97,7 @@ impl<'side, S: Side> Farm<'side, S> {
 
     /// Checks the claims of demand 3 for the list so far, if the list keeps to its condition.
     pub fn check_claims(&mut self) -> Result<Spoken, Found> {
-        if !self.plan.lawful || self.claims.void {
+        if !self.plan.claims || self.claims.void {
             return Ok(Spoken::default());
         }
         self.done.claim_checks += 1;
@@ -116,16 +117,21 @@ impl<'side, S: Side> Farm<'side, S> {
         }
     }
 
-    /// What was found at a panel that is not as demand 3 has it.
-    fn against_demand_3(&self, place: usize, what: &str) -> Found {
+    /// The number and the make of a panel.
+    pub fn name(&self, place: usize) -> String {
         let member = &self.members[place];
         let (number, make) = (member.number, member.make);
-        let kind = match member.keeps_floor {
-            true => format!("{make:?}"),
-            false => format!("{make:?}, without a floor"),
+        let floor = match member.keeps_floor {
+            true => "",
+            false => ", without a floor",
         };
-        let what = format!("demand 3, panel {number} of the make {kind}: {what}");
-        Found::new(what).with(self.side.script(&member.panel))
+        format!("panel {number} of the make {make:?}{floor}")
+    }
+
+    /// What was found at a panel that is not as demand 3 has it.
+    fn against_demand_3(&self, place: usize, what: &str) -> Found {
+        let what = format!("demand 3, {}: {what}", self.name(place));
+        Found::new(what).with(self.side.script(&self.members[place].panel))
     }
 
     /// Buffers that are long enough.
@@ -197,11 +203,7 @@ impl<'side, S: Side> Farm<'side, S> {
                 passed.push(*frame);
             }
         }
-        match self.plan.order {
-            Order::Any => self.random.shuffle(&mut passed),
-            Order::OldestFirst => passed.sort_unstable(),
-            Order::NewestFirst => passed.sort_unstable_by(|one, other| other.cmp(one)),
-        }
+        self.plan.order.arrange(&mut passed, &mut self.random);
         passed.truncate(self.random.between(1, self.plan.most_passed));
         for frame in passed {
             if self.random.chance(self.plan.lost) {

@@ -1,5 +1,6 @@
 //! Random lists of calls over 2 to 64 panels.
 
+use crate::arrivals::Arrivals;
 use crate::calls::Call;
 use crate::claims::Spoken;
 use crate::compose;
@@ -35,6 +36,8 @@ pub struct Done {
     pub new_took_old: u64,
     /// Messages of panels of the new make that one of the old make took.
     pub old_took_new: u64,
+    /// What was seen of frames that were received in two orders.
+    pub arrivals: Arrivals,
 }
 
 impl Done {
@@ -52,17 +55,38 @@ impl Done {
         self.brought += more.brought;
         self.new_took_old += more.new_took_old;
         self.old_took_new += more.old_took_new;
+        self.arrivals.add(&more.arrivals);
     }
 }
 
-/// Makes lists until so many calls are made. If all are to be lawful, each keeps to the condition
-/// of demand 3; otherwise every third one does not.
-pub fn run<S: Side>(side: &mut S, seed: u64, calls: u64, all_lawful: bool) -> Result<Done, Found> {
+/// Which lists are made.
+#[derive(Clone, Copy)]
+pub enum Lists {
+    /// Every third one does not keep to the condition of demand 3.
+    Any,
+    /// Each keeps to it.
+    Lawful,
+    /// Each keeps to it, and in place of the claims two orders of arrivals are checked.
+    WithArrivals,
+}
+
+impl Lists {
+    /// The plan of a list of this number.
+    fn plan(self, list: u64, random: &mut Random) -> Plan {
+        match self {
+            Lists::Any => Plan::any(random, list % 3 != 2),
+            Lists::Lawful => Plan::any(random, true),
+            Lists::WithArrivals => Plan::with_arrivals(random),
+        }
+    }
+}
+
+/// Makes lists until so many calls are made.
+pub fn run<S: Side>(side: &mut S, seed: u64, calls: u64, lists: Lists) -> Result<Done, Found> {
     let mut done = Done::default();
     while done.calls < calls {
         let mut random = Random::new(seed, done.lists);
-        let lawful = all_lawful || done.lists % 3 != 2;
-        let mut plan = Plan::any(&mut random, lawful);
+        let mut plan = lists.plan(done.lists, &mut random);
         plan.calls = plan.calls.min(calls - done.calls);
         let mut farm = Farm::new(side, plan, random)?;
         let ended = farm.run();

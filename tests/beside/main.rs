@@ -1,7 +1,9 @@
 //! A second implementation beside the module: makes the same calls on both and compares them, and
-//! checks the claims of demand 3 on what the module wrote, and panels of the old make beside it.
+//! checks the claims of demand 3 on what the module wrote, panels of the old make beside it, and
+//! that arrival order makes no difference.
 
 mod ahead;
+mod arrivals;
 mod barriers;
 mod beacons;
 mod bits;
@@ -12,6 +14,7 @@ mod claims;
 mod compare;
 mod compose;
 mod counts;
+mod ends;
 mod farm;
 mod floors;
 mod frames;
@@ -21,6 +24,7 @@ mod lists;
 mod member;
 mod mixed;
 mod module;
+mod orders;
 mod plan;
 mod random;
 mod records;
@@ -41,6 +45,7 @@ mod yards;
 mod years;
 
 use compare::Both;
+use lists::Lists;
 use mixed::Mixed;
 use random::Random;
 use side::Found;
@@ -53,7 +58,8 @@ usage: beside [--seed N] [--calls N] [--list PATH] [--faults | --replay FILE | -
 
 Makes the same calls on the module and on a second implementation, and compares numbers, records
 and all bytes of the lent buffers; checks the claims of demand 3 on the logs that the module wrote,
-and on those of panels of the old make that share its lists.
+and on those of panels of the old make that share its lists; and receives the same frames in two
+orders, which have to end alike.
 
   --seed N       other random calls; 1 if not given
   --calls N      calls in lists, with which the other parts grow; 1000000 if not given
@@ -103,13 +109,35 @@ fn options() -> Option<Options> {
     Some(options)
 }
 
+/// Says what a part does. What it finds is then named by it.
+fn part(name: &'static str, words: &str) -> impl Fn(Found) -> Found {
+    println!("{name}: {words}");
+    move |found| found.within(format!("part {name}"))
+}
+
+/// The parts that make random lists; how many of these took a frame that nobody had sent. Those of
+/// the first part are other lists than those of the second.
+fn in_lists(options: &Options, both: &mut Both) -> Result<u64, Found> {
+    let (seed, calls) = (options.seed, options.calls);
+    let named = part(
+        "arrivals",
+        "two orders of receiving the same frames, on records that lists of demand 3 reach",
+    );
+    let mut mixed = Mixed::new(both, !seed);
+    let arrivals = lists::run(&mut mixed, !seed, calls / 6, Lists::WithArrivals).map_err(named)?;
+    let named = part(
+        "lists",
+        "random lists of calls over 2 to 64 panels, of both makes in some, with demand 3's claims",
+    );
+    let mut mixed = Mixed::new(both, seed);
+    let lists = lists::run(&mut mixed, seed, calls, Lists::Any).map_err(named)?;
+    both.counts.lists(&lists, &arrivals);
+    Ok(lists.void + arrivals.void)
+}
+
 /// All parts, without faults: those that are soon done come first.
 fn compare_all(options: &Options, both: &mut Both) -> Result<(), Found> {
     let (seed, calls, list) = (options.seed, options.calls, &options.list);
-    let part = |name: &'static str, words: &str| {
-        println!("{name}: {words}");
-        move |found: Found| found.within(format!("part {name}"))
-    };
     let named = part("cases", "bench cases 1 to 12, beacons and traces");
     cases::run(both, list).map_err(named)?;
     let named = part("ahead", "deadlines far ahead");
@@ -129,15 +157,9 @@ fn compare_all(options: &Options, both: &mut Both) -> Result<(), Found> {
     bundles::listings(both, seed, calls / 5_000 + 10, list).map_err(named)?;
     let named = part("records", "calls on any records, whole and broken");
     records::run(both, seed, calls / 25 + 1).map_err(named)?;
-    let named = part(
-        "lists",
-        "random lists of calls over 2 to 64 panels, of both makes in some, with demand 3's claims",
-    );
-    let mut mixed = Mixed::new(both, seed);
-    let done = lists::run(&mut mixed, seed, calls, false).map_err(named)?;
-    both.counts.lists(&done);
+    let void = in_lists(options, both)?;
     print!("{}", both.counts.table());
-    match (done.void, both.counts.wrong()) {
+    match (void, both.counts.wrong()) {
         (0, wrong) if wrong.is_empty() => Ok(()),
         (0, wrong) => Err(Found::new(wrong.join(", "))),
         (void, _) => Err(Found::new(format!(

@@ -167,6 +167,18 @@ impl Side for Mixed<'_> {
         }
     }
 
+    fn copy(&mut self, panel: &Panel) -> Panel {
+        let now = match &panel.now {
+            Now::Alone(panel) => Now::Alone(panel.clone()),
+            Now::Both(pair) => Now::Both(self.both.kept(&pair.kept())),
+        };
+        Panel { now, shadow: None }
+    }
+
+    fn record(&self, panel: &Panel) -> Kept {
+        panel.now.record()
+    }
+
     /// Those of a panel that is in the second implementation alone are not kept.
     fn script(&self, panel: &Panel) -> Option<Script> {
         match &panel.now {

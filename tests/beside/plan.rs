@@ -107,6 +107,17 @@ pub enum Order {
     NewestFirst,
 }
 
+impl Order {
+    /// Puts frames, which are numbered as they were sent, in this order.
+    pub fn arrange(self, frames: &mut [usize], random: &mut Random) {
+        match self {
+            Order::Any => random.shuffle(frames),
+            Order::OldestFirst => frames.sort_unstable(),
+            Order::NewestFirst => frames.sort_unstable_by(|one, other| other.cmp(one)),
+        }
+    }
+}
+
 #[derive(Clone, Copy)]
 pub struct Plan {
     pub panels: usize,
@@ -121,6 +132,10 @@ pub struct Plan {
     /// The list keeps to the condition of demand 3: frames received were sent in the list, or are
     /// refused.
     pub lawful: bool,
+    /// The claims are checked: in lawful lists, but for those with arrivals.
+    pub claims: bool,
+    /// After how many calls in a hundred frames are received in two orders, beside the list.
+    pub arrivals: usize,
     pub clocks: Clocks,
     pub clock_step: usize,
     /// How many clock calls in a hundred jump ahead.
@@ -177,6 +192,8 @@ impl Plan {
             shadows: random.chance(20),
             calls: calls(random),
             lawful,
+            claims: lawful,
+            arrivals: 0,
             clocks: random.pick(&[Near, Near, Apart, Apart, Wide, Last, Weeks, LastWeeks]),
             clock_step: random.pick(&[0, 1, 3, 30]),
             jumps: random.pick(&[0, 0, 0, 2]),
@@ -203,6 +220,19 @@ impl Plan {
         }
         plan.shadows |= plan.brought > 0 && random.chance(50);
         plan
+    }
+
+    /// A list of demand 3 beside which frames are received in two orders, and that alone is checked.
+    /// It is short, so that there are many.
+    pub fn with_arrivals(random: &mut Random) -> Plan {
+        let plan = Plan::any(random, true);
+        Plan {
+            calls: plan.calls.min(500),
+            claims: false,
+            shadows: false,
+            arrivals: 10,
+            ..plan
+        }
     }
 
     /// What each of the panels is.

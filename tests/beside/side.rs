@@ -2,6 +2,7 @@
 //! see what the claims say of its planted faults.
 
 use crate::calls::Call;
+use crate::kept::Kept;
 use crate::random::Random;
 use crate::room::Room;
 use crate::script::Script;
@@ -67,6 +68,12 @@ pub trait Side {
     /// The floor in the record of a panel, if it is to be held against the counted one.
     fn floor(&self, panel: &Self::Panel) -> Option<u32>;
 
+    /// A panel that starts with the record of this one, in all else as it is, but has no shadow.
+    fn copy(&mut self, panel: &Self::Panel) -> Self::Panel;
+
+    /// The record of a panel in plain form.
+    fn record(&self, panel: &Self::Panel) -> Kept;
+
     /// The calls on a panel so far, if they are kept.
     fn script(&self, panel: &Self::Panel) -> Option<Script>;
 }
@@ -130,6 +137,14 @@ impl Side for Alone {
 
     fn floor(&self, _: &second::Panel) -> Option<u32> {
         None
+    }
+
+    fn copy(&mut self, panel: &second::Panel) -> second::Panel {
+        panel.clone()
+    }
+
+    fn record(&self, panel: &second::Panel) -> Kept {
+        Kept::of(panel)
     }
 
     fn script(&self, _: &second::Panel) -> Option<Script> {

@@ -1,6 +1,7 @@
 //! Whether the planted faults are noticed, and how.
 
 use crate::compare::Both;
+use crate::lists::Lists;
 use crate::mixed::Mixed;
 use crate::random::Random;
 use crate::second::faults::{plant, Fault, FAULTS};
@@ -147,7 +148,7 @@ fn run_part(part: &str, long: u64, both: &mut Both, seed: u64, list: &Path) -> R
         "records" => records::run(both, seed ^ long, long),
         "bundles" => bundles::readers(both, seed, long),
         "listings" => bundles::listings(both, seed, long, list),
-        _ => lists::run(&mut Mixed::new(both, seed), seed, long, false).map(|_| ()),
+        _ => lists::run(&mut Mixed::new(both, seed), seed, long, Lists::Any).map(|_| ()),
     }
 }
 
@@ -182,7 +183,7 @@ fn compared(fault: Option<Fault>, seed: u64, list: &Path) -> Option<Noticed> {
 fn claimed(fault: Option<Fault>, seed: u64) -> Option<u64> {
     plant(fault);
     let mut alone = Alone::new(Random::new(seed, 0));
-    let found = lists::run(&mut alone, seed, CLAIM_CALLS, true);
+    let found = lists::run(&mut alone, seed, CLAIM_CALLS, Lists::Lawful);
     plant(None);
     found.err().map(|_| alone.calls)
 }
@@ -193,7 +194,7 @@ fn found_where_mixed(fault: Option<Fault>, seed: u64) -> Option<(Found, u64)> {
     plant(fault);
     let mut both = Both::new(Random::new(seed, 0));
     let mut mixed = Mixed::new(&mut both, seed).claims_alone();
-    let found = lists::run(&mut mixed, seed, CLAIM_CALLS, true).err();
+    let found = lists::run(&mut mixed, seed, CLAIM_CALLS, Lists::Lawful).err();
     let calls = mixed.calls();
     plant(None);
     found.map(|found| (found, calls))

@@ -24,6 +24,7 @@ mod lists;
 mod member;
 mod mixed;
 mod module;
+mod noticing;
 mod orders;
 mod plan;
 mod random;

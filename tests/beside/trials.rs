@@ -1,12 +1,10 @@
-//! Whether the planted faults are noticed, and how.
+//! Which planted faults have to be noticed by what, and whether they are.
 
-use crate::compare::Both;
-use crate::lists::Lists;
-use crate::mixed::Mixed;
-use crate::random::Random;
-use crate::second::faults::{plant, Fault, FAULTS};
-use crate::side::{Alone, Found};
-use crate::{ahead, barriers, bundles, cases, floors, frames, lists, records};
+use crate::noticing::{
+    arrived, claimed, claimed_where_mixed, compared, found_where_mixed, Noticed,
+};
+use crate::second::faults::{Fault, FAULTS};
+use crate::side::Found;
 use std::path::Path;
 use std::sync::atomic::{AtomicUsize, Ordering};
 use std::sync::Mutex;
@@ -14,8 +12,6 @@ use std::thread;
 
 /// Threads that the faults are tried on.
 const THREADS: usize = 2;
-/// Calls of lists after which the claims have to have noticed a fault.
-const CLAIM_CALLS: u64 = 300_000;
 
 /// Faults that break demand 3 in lists of so many calls, as far as seeds were tried: the claims
 /// alone have to notice them too, without the module.
@@ -34,6 +30,7 @@ const BREAK_DEMAND_3: &[Fault] = &[
     Fault::LowestEntryTestedOnly,
     Fault::LowestBitNotTested,
     Fault::HighestBitNotTested,
+    Fault::SettlingStopsAfterOne,
     Fault::ClockDoesNotSettle,
     Fault::BarrierNotRaisedByReceived,
     Fault::BarrierNotRaisedByOwn,
@@ -124,87 +121,100 @@ const BREAK_DEMAND_3_WHERE_MIXED: &[Fault] = &[
     Fault::OldMakeNotSetBack,
 ];
 
-/// How a fault was noticed: the part, and after how many calls.
-struct Noticed {
-    part: &'static str,
-    calls: u64,
-}
+/// Faults with which two orders of receiving the same frames are not as W-206 has it, beside lists
+/// of so many calls, as far as seeds were tried: arrivals alone have to notice them too, without the
+/// module and the claims.
+const BREAK_W_206: &[Fault] = &[
+    Fault::OnePassOverTheList,
+    Fault::BarrierEmptiedBeforeFrame,
+    Fault::OwnMessageInItsBarrier,
+    Fault::HandedOnArrival,
+    Fault::EveryFrameTurnedDown,
+    Fault::OneReadingForAll,
+    Fault::CountOneTooHigh,
+    Fault::RecordAsItCame,
+    Fault::EntryMetAtEqualTime,
+    Fault::EntryMetByEqualMarkOnly,
+    Fault::LowestEntryTestedOnly,
+    Fault::LowestBitNotTested,
+    Fault::HighestBitNotTested,
+    Fault::SettlingStopsAfterOne,
+    Fault::BarrierNotRaisedByOwn,
+    Fault::HighNotRaisedByReceived,
+    Fault::LapsedMarksForgotten,
+    Fault::LapsedEntriesStripped,
+    Fault::OwnEntryLeftOut,
+    Fault::EntryOneAboveRemoved,
+    Fault::EntryAboveRemoved,
+    Fault::RemovedByTheMark,
+    Fault::RemovedByTheHighest,
+    Fault::RemovedByTheFirst,
+    Fault::RemovedByTheDeadline,
+    Fault::NotCarriedRemoved,
+    Fault::RemovedPlaceByPlace,
+    Fault::PlaceTakenForPanel,
+    Fault::LapsedEntriesRemoved,
+    Fault::SettlingRemovesNothing,
+    Fault::OnlySettlingRemoves,
+    Fault::RemovedByTheReceived,
+    Fault::WaitingRemoves,
+    Fault::RefusedCopyRemoves,
+    Fault::RemovedFromTheMarks,
+    Fault::RemovedIsZero,
+    Fault::RemovedBitStays,
+    Fault::RemovedBytesStay,
+    Fault::OldMakeEmptiesAsItReceives,
+    Fault::OldMakeKeepsTheHighest,
+    Fault::OldMakeHandsOnArrival,
+    Fault::OldMakeDoesNotSettle,
+    Fault::DeadlineByTheClockAlone,
+    Fault::DeadlineNotAboveHigh,
+    Fault::DeadlinePastLastSent,
+    Fault::BeaconByTheClockAlone,
+    Fault::BeaconStopsAtTheLast,
+    Fault::BeaconNotHanded,
+    Fault::BeaconLeavesHigh,
+    Fault::BeaconWithoutEntries,
+    Fault::BeaconLeavesBarrier,
+    Fault::BeaconNotInBarrier,
+    Fault::FarAheadOfHigh,
+    Fault::FarAheadReadyTaken,
+    Fault::FarAheadAsTooHigh,
+    Fault::RefusedFarAheadRaisesMark,
+    Fault::FarAheadHighLowered,
+    Fault::FarAheadMarkIsBroken,
+    Fault::SendStopsFarAhead,
+    Fault::FarAheadHighLeftOut,
+    Fault::FarAheadEntriesStripped,
+    Fault::FloorNotAskedOfReceived,
+    Fault::OneAboveFloorLapsed,
+    Fault::FloorForEachSource,
+    Fault::EachEntryRaisesFloor,
+    Fault::MarkAfterHandingAsked,
+    Fault::FloorOverwritten,
+    Fault::FloorRisesToDeadline,
+    Fault::FloorStaysOnArrival,
+    Fault::FloorStaysWhileSettling,
+    Fault::SetBackForgetsMarks,
+    Fault::FloorAboveTimeIsBroken,
+    Fault::WaitingCopyTaken,
+    Fault::LoggedCopyTaken,
+    Fault::RefusedLapsedRaisesMark,
+    Fault::PayloadThirtyThreeSent,
+    Fault::MaskFromTheTop,
+    Fault::EntriesHighestPanelFirst,
+    Fault::EntriesWrittenHighestPanelFirst,
+    Fault::LowestByteFirst,
+    Fault::LogZerosMissing,
+];
 
-/// What came of a fault: how comparing noticed it, and after how many calls the claims.
+/// What came of a fault: how comparing noticed it, and after how many calls the claims and the
+/// arrivals.
 struct Tried {
     fault: Fault,
     compared: Option<Noticed>,
     claimed: Option<u64>,
-}
-
-/// A part of the run, so long.
-fn run_part(part: &str, long: u64, both: &mut Both, seed: u64, list: &Path) -> Result<(), Found> {
-    match part {
-        "cases" => cases::run(both, list),
-        "ahead" => ahead::run(both, list),
-        "barriers" => barriers::run(both),
-        "floors" => floors::run(both),
-        "frames" => frames::run(both, seed, long),
-        "records" => records::run(both, seed ^ long, long),
-        "bundles" => bundles::readers(both, seed, long),
-        "listings" => bundles::listings(both, seed, long, list),
-        _ => lists::run(&mut Mixed::new(both, seed), seed, long, Lists::Any).map(|_| ()),
-    }
-}
-
-/// Runs both implementations, with the fault in the second, until they differ. What notices quickly
-/// comes first.
-fn compared(fault: Option<Fault>, seed: u64, list: &Path) -> Option<Noticed> {
-    let parts = [
-        ("cases", 1),
-        ("ahead", 1),
-        ("barriers", 1),
-        ("floors", 1),
-        ("frames", 1),
-        ("bundles", 80),
-        ("lists", 2_000),
-        ("records", 500),
-        ("listings", 12),
-        ("lists", 30_000),
-        ("records", 10_000),
-        ("lists", 300_000),
-    ];
-    plant(fault);
-    let mut both = Both::new(Random::new(seed, 0));
-    let noticed = parts
-        .into_iter()
-        .find(|(part, long)| run_part(part, *long, &mut both, seed, list).is_err());
-    plant(None);
-    let calls = both.counts.calls();
-    noticed.map(|(part, _)| Noticed { part, calls })
-}
-
-/// Makes lists with the second implementation alone, until a claim does not hold.
-fn claimed(fault: Option<Fault>, seed: u64) -> Option<u64> {
-    plant(fault);
-    let mut alone = Alone::new(Random::new(seed, 0));
-    let found = lists::run(&mut alone, seed, CLAIM_CALLS, Lists::Lawful);
-    plant(None);
-    found.err().map(|_| alone.calls)
-}
-
-/// Makes lists with both implementations, until they differ or a claim does not hold; what was
-/// found, and after how many calls.
-fn found_where_mixed(fault: Option<Fault>, seed: u64) -> Option<(Found, u64)> {
-    plant(fault);
-    let mut both = Both::new(Random::new(seed, 0));
-    let mut mixed = Mixed::new(&mut both, seed).claims_alone();
-    let found = lists::run(&mut mixed, seed, CLAIM_CALLS, Lists::Lawful).err();
-    let calls = mixed.calls();
-    plant(None);
-    found.map(|found| (found, calls))
-}
-
-/// After how many of these calls a claim does not hold. The fault is one of old panels, which are
-/// compared with nothing here.
-fn claimed_where_mixed(fault: Fault, seed: u64) -> Option<u64> {
-    let (found, calls) = found_where_mixed(Some(fault), seed)?;
-    found.what.starts_with("demand 3").then_some(calls)
+    arrived: Option<u64>,
 }
 
 /// After how many calls the claims notice a fault that breaks demand 3.
@@ -218,6 +228,14 @@ fn claimed_if_breaking(fault: Fault, seed: u64) -> Option<u64> {
     None
 }
 
+/// After how many calls arrivals notice a fault that breaks W-206.
+fn arrived_if_breaking(fault: Fault, seed: u64) -> Option<u64> {
+    match BREAK_W_206.contains(&fault) {
+        true => arrived(Some(fault), seed).map(|(_, calls)| calls),
+        false => None,
+    }
+}
+
 /// Tries the faults on several threads. The results are in the order of the faults.
 fn tried(seed: u64, list: &Path) -> Vec<Tried> {
     let next = AtomicUsize::new(0);
@@ -227,12 +245,11 @@ fn tried(seed: u64, list: &Path) -> Vec<Tried> {
         let Some(fault) = FAULTS.get(place).copied() else {
             return;
         };
-        let compared = compared(Some(fault), seed, list);
-        let claimed = claimed_if_breaking(fault, seed);
         let tried = Tried {
             fault,
-            compared,
-            claimed,
+            compared: compared(Some(fault), seed, list),
+            claimed: claimed_if_breaking(fault, seed),
+            arrived: arrived_if_breaking(fault, seed),
         };
         if let Ok(mut all) = all.lock() {
             all.push((place, tried));
@@ -254,14 +271,14 @@ fn print(tried: &Tried) -> Vec<String> {
         fault,
         compared,
         claimed,
+        arrived,
     } = tried;
-    let (part, calls) = match compared {
-        Some(noticed) => (noticed.part, noticed.calls.to_string()),
-        None => ("-", "-".to_string()),
-    };
-    let claims = claimed.map_or("-".to_string(), |calls| calls.to_string());
+    let or_none = |calls: Option<u64>| calls.map_or("-".to_string(), |calls| calls.to_string());
+    let part = compared.as_ref().map_or("-", |noticed| noticed.part);
+    let calls = or_none(compared.as_ref().map(|noticed| noticed.calls));
+    let (claims, arrivals) = (or_none(*claimed), or_none(*arrived));
     println!(
-        "{part:>8} {calls:>6} {claims:>6}  {fault:?}: {}",
+        "{part:>8} {calls:>6} {claims:>6} {arrivals:>6}  {fault:?}: {}",
         fault.words()
     );
     let mut unnoticed = Vec::new();
@@ -272,11 +289,14 @@ fn print(tried: &Tried) -> Vec<String> {
     if claimed.is_none() && breaking.any(|breaking| breaking == fault) {
         unnoticed.push(format!("{fault:?} went unnoticed by the claims"));
     }
+    if arrived.is_none() && BREAK_W_206.contains(fault) {
+        unnoticed.push(format!("{fault:?} went unnoticed by arrivals"));
+    }
     unnoticed
 }
 
-/// Tries all faults. The error names those that went unnoticed.
-pub fn run(seed: u64, list: &Path) -> Result<(), Found> {
+/// Whether nothing is noticed without a fault.
+fn without_a_fault(seed: u64, list: &Path) -> Result<(), Found> {
     println!("without a fault: nothing may be noticed");
     if let Some(noticed) = compared(None, seed, list) {
         let what = format!("the part {} fails without a fault", noticed.part);
@@ -288,13 +308,31 @@ pub fn run(seed: u64, list: &Path) -> Result<(), Found> {
     if let Some((found, _)) = found_where_mixed(None, seed) {
         return Err(found.within("in lists of both makes, without a fault"));
     }
+    match arrived(None, seed) {
+        Some((found, _)) => Err(found.within("in two orders, without a fault")),
+        None => Ok(()),
+    }
+}
+
+/// Tries all faults. The error names those that went unnoticed.
+pub fn run(seed: u64, list: &Path) -> Result<(), Found> {
+    without_a_fault(seed, list)?;
     println!(
         "faults: {} planted in the second implementation, one at a time. The part that noticed",
         FAULTS.len()
     );
-    println!("it, after how many calls, and after how many the claims did on their own:");
+    println!("it, after how many calls, and after how many the claims and the arrivals did, each");
+    println!("on their own:");
     let all = tried(seed, list);
     let unnoticed: Vec<String> = all.iter().flat_map(print).collect();
+    let many = |noticed: fn(&Tried) -> bool| all.iter().filter(|tried| noticed(tried)).count();
+    println!(
+        "noticed: {} of {}, {} by the claims alone, {} by the arrivals alone",
+        many(|tried| tried.compared.is_some()),
+        FAULTS.len(),
+        many(|tried| tried.claimed.is_some()),
+        many(|tried| tried.arrived.is_some())
+    );
     match unnoticed.is_empty() && all.len() == FAULTS.len() {
         true => Ok(()),
         false => Err(Found::new(unnoticed.join(", "))),

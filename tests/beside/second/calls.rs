@@ -98,6 +98,7 @@ impl Panel {
         let asked = planted(Fault::RemovedByTheReceived);
         self.received = asked.then(|| message.predecessors.clone());
         match ready || on_arrival {
+            true if planted(Fault::ReadyEntersTheList) => self.wait(message),
             true => self.perform_delivery(&message, &mut log),
             false => {
                 if planted(Fault::WaitingRemoves) {

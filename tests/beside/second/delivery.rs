@@ -148,6 +148,9 @@ impl Panel {
         while let Some(place) = self.next_ready() {
             let pending = self.leave(place);
             self.perform_delivery(&pending.message, log);
+            if planted(Fault::SettlingStopsAfterOne) {
+                break;
+            }
         }
         self.settling = false;
     }

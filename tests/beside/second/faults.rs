@@ -36,6 +36,8 @@ declare! {
     SourceBeforeDeadline: "the lowest source goes first, then the lowest deadline",
     LatestInTheListFirst: "of equal messages the latest in the list goes first",
     EarliestInTheListFirst: "the earliest in the list goes first",
+    SettlingStopsAfterOne: "settling stops after one message",
+    ReadyEntersTheList: "a ready message enters the list, and is handed as the panel settles",
     PlaceNotUsedAgain: "a place freed in the list is not used again",
     LastIntoTheFreedPlace: "the last of the list moves to the place that is freed",
     NewestFirstInTheList: "a message goes to the start of the list",

@@ -1,23 +1,22 @@
 -- Some frames are received at a panel, after a list: what they hand, and what is handed or waits then. Assumes nothing.
-use Prim.Native.Nat.{ℕ, _≤_}
+use Prim.Native.Nat.{ℕ}
 use native.Mathlib.Decide.{ℕ-discrete}
 use native.Mathlib.Omega.{arith}
 use mathlib.Core.Path.{_≡_, refl, sym, ap, _∙_, subst, subst⁻¹}
 use mathlib.Core.Logic.{_⊎_, inl, inr, ⊎-elim, _≢_, by-cases}
 use mathlib.Core.List.{List, [], _∷_, _++_, map, map-append, append-assoc, append-nil, List·Memᴰ·head as first, List·Memᴰ·tail as later, List·Memᴰ·append-cases, Memᴰ·append-left, Memᴰ·append-right, Memᴰ·cast, Memᴰ·of-map}
-use lib.ListN.{length}
 use Rattle.frame.specs.Message.{Message}
 use Rattle.frame.specs.Reading.{messageIn}
-use Rattle.rules.specs.Sizes.{width, outputLength}
+use Rattle.rules.specs.Sizes.{width}
 use Rattle.rules.specs.Panel.{Name, nameOf, Make, Panel, ofMake}
 use Rattle.rules.specs.Handing.{logRecord}
 use Rattle.rules.specs.Settling.{Settled}
 use Rattle.rules.specs.Results.{receive, Result, defined}
-use Rattle.rules.specs.Lists.{_isIn_, Made, recordAt, givenTo, nameIn, namesIn, logAt}
+use Rattle.rules.specs.Lists.{_isIn_, Made, recordAt, givenTo, nameIn, namesIn, logAt, sends}
 use Rattle.rules.proofs.Ready.{limit, limit-withWaiting}
 use Rattle.rules.proofs.Keeping.{logWith}
 use Rattle.rules.proofs.Sites.{Placed}
-use Rattle.arrivals.specs.Arrival.{recordsIn, recordsAt}
+use Rattle.arrivals.specs.Arrival.{Heard, recordsIn, recordsAt}
 use Rattle.arrivals.proofs.SentFrames.{SentIn}
 use Rattle.arrivals.proofs.Records.{record-here, log-here, records-here}
 use Rattle.arrivals.proofs.HandAll.{bare, handAll, handAll-append, handAll-own, handAll-time, handAll-limit, handAll-ofMake}
@@ -73,7 +72,7 @@ none-heard i make list =
 
 -- ---- one more
 
-module _ (list : List Made) (i : ℕ) (make : Make) (frames : List (List ℕ)) (heard : List Made) (A : After i make list frames heard) where
+module _ {i : ℕ} {make : Make} {list : List Made} {frames : List (List ℕ)} {heard : List Made} (A : After i make list frames heard) where
   abbrev earlier : List Made
   earlier = heard ++ list
 
@@ -92,8 +91,9 @@ module _ (list : List Made) (i : ℕ) (make : Make) (frames : List (List ℕ)) (
       let deadline = ap (λ (x : Message). x .deadline) e in
       (omega (arith, same-own A, own), omega (arith, same-limit A, deadline, alive), omega (arith, same-time A, deadline, near))
 
-  module _ (frame output : List ℕ) (last : Made) (there : last .at ≡ i) (promise : last .result ≡ defined p (receive frame output))
-      (s : Settled) (R : Received p (messageIn width frame) (defined p (receive frame output)) s) where
+  -- what a receive of a frame gave
+  module _ {frame : List ℕ} {last : Made} (H : Heard (sends list) i make frame last) (promise : last .result ≡ defined p (receive frame (H .output)))
+      {s : Settled} (R : Received p (messageIn width frame) (defined p (receive frame (H .output))) s) where
     abbrev m : Message
     m = messageIn width frame
 
@@ -104,7 +104,7 @@ module _ (list : List Made) (i : ℕ) (make : Make) (frames : List (List ℕ)) (
     handed = A .handed ++ s .handed
 
     record-now : recordAt i now ≡ s .panel
-    record-now = record-here i last earlier there ∙ ap (λ (r : Result). r .panel) promise ∙ R .left
+    record-now = record-here i last earlier (H .there) ∙ ap (λ (r : Result). r .panel) promise ∙ R .left
 
     panel-now : bare (givenTo i make now) ≡ handAll (bare p₀) handed
     panel-now =
@@ -116,14 +116,14 @@ module _ (list : List Made) (i : ℕ) (make : Make) (frames : List (List ℕ)) (
 
     log-now : logAt i now ≡ logWith (logAt i list) handed
     log-now =
-        log-here i last earlier there
+        log-here i last earlier (H .there)
         ∙ (λ j. A .log j ++ (ap (λ (r : Result). namesIn (r .count) (r .output)) promise ∙ R .names) j)
         ∙ append-assoc (logAt i list) (map nameOf (A .handed)) (map nameOf (s .handed))
         ∙ ap (λ (l : List Name). logAt i list ++ l) (sym (map-append nameOf (A .handed) (s .handed)))
 
     records-now : recordsAt i now ≡ recordsAt i list ++ map logRecord handed
     records-now =
-        records-here i last earlier there
+        records-here i last earlier (H .there)
         ∙ (λ j. A .records j ++ (ap (λ (r : Result). recordsIn (r .count) (r .output)) promise ∙ R .records) j)
         ∙ append-assoc (recordsAt i list) (map logRecord (A .handed)) (map logRecord (s .handed))
         ∙ ap (λ (l : List (List ℕ)). recordsAt i list ++ l) (sym (map-append logRecord (A .handed) (s .handed)))
@@ -152,8 +152,8 @@ module _ (list : List Made) (i : ℕ) (make : Make) (frames : List (List ℕ)) (
         split (inl k) = ⊎-elim (λ j. before (A .only w (inl j))) (λ j. new (inl j)) (List·Memᴰ·append-cases (A .handed) k)
         split (inr k) = new (inr (subst (λ (q : Panel). w isIn q .waiting) record-now k))
 
-    -- a receive of a frame that was sent, with an output long enough, and not answered with 23
-    module _ (F : SentIn earlier frame) (room : outputLength ≤ length output) (not-23 : last .result .number ≢ 23)
+    -- the frame was sent, and no other message has the name of this one
+    module _ (F : SentIn earlier frame)
         (unique : (w : Message) → HereAt i (A .handed) earlier w → nameOf w ≡ nameOf m → w ≡ m) where
       placed : Placed (logAt i earlier) (p .waiting) (nameOf m) → (nameOf m isIn logAt i list) ⊎ HereAt i handed now m
       placed (inl k) =
@@ -164,9 +164,9 @@ module _ (list : List Made) (i : ℕ) (make : Make) (frames : List (List ℕ)) (
 
       this-came : Takeable p₀ m → (nameOf m isIn logAt i list) ⊎ HereAt i handed now m
       this-came t =
-          by-cases (ℕ-discrete (defined p (receive frame output) .number) 0) (λ z. inr (here-now m (R .taken z)))
+          by-cases (ℕ-discrete (defined p (receive frame (H .output)) .number) 0) (λ z. inr (here-now m (R .taken z)))
           (λ refuses.
-          placed (turned-down earlier i make frame output F room refuses (subst (λ (r : Result). r .number ≢ 23) promise not-23)
+          placed (turned-down earlier i make frame (H .output) F (H .long-enough) refuses (subst (λ (r : Result). r .number ≢ 23) promise (H .not-23))
           (takeable-now m t)))
 
       came-now : (f : List ℕ) → f isIn frame ∷ frames → Takeable p₀ (messageIn width f)

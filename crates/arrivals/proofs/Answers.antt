@@ -12,7 +12,7 @@ use Rattle.frame.proofs.FirstOf.{eachNumber, firstOf-each}
 use Rattle.rules.specs.Panel.{Panel}
 use Rattle.rules.specs.Refusals.{messageChecks}
 use Rattle.rules.specs.Results.{Result}
-use Rattle.rules.specs.Lists.{Made, sends, Lawful}
+use Rattle.rules.specs.Lists.{Made, Lawful}
 use Rattle.rules.proofs.Booleans.{or-either}
 use Rattle.arrivals.specs.Arrival.{onTheWay, AnswersOnTheWay}
 use Rattle.arrivals.proofs.SentFrames.{sent-in, heard-promised}
@@ -30,7 +30,7 @@ pub answers-on-the-way : (list : List Made) → Lawful list → AnswersOnTheWay 
 answers-on-the-way list lawful i number make [] [] all promised made k = elim k [ ]
 answers-on-the-way list lawful i number make (frame ∷ frames) (last ∷ heard) (H, all) (promise, promised) made (first e) =
     let F = sent-in list lawful i make frame frames last heard (H, all) promised in
-    let defined-so = heard-promised i make frame last (sends list) (heard ++ list) H promise in
+    let defined-so = heard-promised (heard ++ list) H promise in
     let is =
     ap (λ (r : Result). r .number) defined-so ∙ number-is (heard ++ list) i make frame (H .output) F (H .long-enough) (omega (arith, number, F .sound .sites i .own)) in
     ap (λ (x : Made). onTheWay (x .result .number)) e ∙ ap onTheWay is ∙ message-number _ _ (λ q. H .not-23 (is ∙ q))

@@ -40,67 +40,9 @@ Ordered (m ∷ ms) =
 abbrev pub Above : List ℕ → List Message → Type 0
 Above barrier ms = (w : Message) → w isIn ms → (w .source < 64) × (getD barrier (w .source) 0 < w .deadline)
 
--- one more message in front, where the largest stays and it removes nothing
-carry : (make : Make) (barrier before b : List ℕ) (m : Message) (ms : List Message) (k : ℕ) → topOf before ms k ≡ topOf barrier (m ∷ ms) k
-    → (Removes make m k (topOf barrier (m ∷ ms) k) → topOf barrier (m ∷ ms) k ≡ 0) → Exact make before ms b k → Exact make barrier (m ∷ ms) b k
-carry make barrier before b m ms k e none (inl (v, each)) = inl (v ∙ e, every)
-  where
-    every : (w : Message) → w isIn m ∷ ms → Removes make w k (topOf barrier (m ∷ ms) k) → topOf barrier (m ∷ ms) k ≡ 0
-    every w (first q) r = none (subst (λ x. Removes make x k (topOf barrier (m ∷ ms) k)) q r)
-    every w (later i) r = sym e ∙ each w i (subst⁻¹ (Removes make w k) e r)
-carry make barrier before b m ms k e none (inr (v, w, i, r)) = inr (v, w, later i, subst (Removes make w k) e r)
-
--- or where it removes the entry
-gone : (make : Make) (barrier before b : List ℕ) (m : Message) (ms : List Message) (k : ℕ) → topOf before ms k ≡ 0
-    → Removes make m k (topOf barrier (m ∷ ms) k) → Exact make before ms b k → Exact make barrier (m ∷ ms) b k
-gone make barrier before b m ms k e r (inl (v, each)) = inr (v ∙ e, m, first refl, r)
-gone make barrier before b m ms k e r (inr (v, _, _, _)) = inr (v, m, first refl, r)
-
-module _ (make : Make) (barrier c b : List ℕ) (m : Message) (ms : List Message) (k : ℕ) (left : LeftOf make m k (getD barrier k 0) (getD c k 0)) where
-  abbrev top : ℕ
-  top = topOf barrier (m ∷ ms) k
-
-  -- an entry of its own source
-  same-source : k ≡ m .source → m .source < length c → getD barrier (m .source) 0 < m .deadline → getD (m .entries) (m .source) 0 < m .deadline
-      → Exact make (raise c m) ms b k → Exact make barrier (m ∷ ms) b k
-  unfolding markIn
-  same-source e range above own X =
-      let le = left-le make m k _ _ left in
-      let here = eq-eqb (m .source) k (sym e) in
-      let raised : getD (raise c m) k 0 ≡ max (getD c (m .source) 0) (m .deadline) = rw e (raise-same c m range) in
-      carry make barrier (raise c m) b m ms k (rw here (omega (arith, raised, le, above, ap (λ (n : ℕ). getD barrier n 0) e, ap (λ (n : ℕ). getD c n 0) e)))
-      (λ r. absurd (removes-not make m k top (rw here (omega (arith, own, ap (λ (n : ℕ). getD (m .entries) n 0) e))) r)) X
-
-  -- an entry of another source
-  other-source : k ≢ m .source → ((w : Message) → w isIn ms → (getD (m .entries) (w .source) 0 < w .deadline) × (getD barrier (w .source) 0 < w .deadline))
-      → Exact make (raise c m) ms b k → Exact make barrier (m ∷ ms) b k
-  unfolding markIn
-  other-source ne each X =
-      let apart = ne-eqb (m .source) k (λ e. ne (sym e)) in
-      let raised = raise-other c m k ne in
-      by-cases (decLt 0 (markIn (map nameOf ms) k))
-      (λ pos. named apart raised (largest-of ms k pos)) (λ none. rest apart raised none left)
-    where
-      named : eqb (m .source) k ≡ false → getD (raise c m) k 0 ≡ getD c k 0
-          → (w : Message) × (w isIn ms) × (w .source ≡ k) × (w .deadline ≡ markIn (map nameOf ms) k) → Exact make barrier (m ∷ ms) b k
-      named apart raised (w, i, s, d) =
-          let (unnamed, above) = each w i in
-          let le = left-le make m k _ _ left in
-          carry make barrier (raise c m) b m ms k
-          (rw apart (omega (arith, raised, le, d, above, ap (λ (n : ℕ). getD barrier n 0) s)))
-          (λ r. absurd (removes-not make m k top (rw apart (omega (arith, d, unnamed, ap (λ (n : ℕ). getD (m .entries) n 0) s))) r)) X
-
-      rest : eqb (m .source) k ≡ false → getD (raise c m) k 0 ≡ getD c k 0 → ¬ (0 < markIn (map nameOf ms) k)
-          → LeftOf make m k (getD barrier k 0) (getD c k 0) → Exact make barrier (m ∷ ms) b k
-      rest apart raised none (inl (e, zero)) =
-          let is : top ≡ getD barrier k 0 = rw apart (omega (arith, none)) in
-          carry make barrier (raise c m) b m ms k (omega (arith, is, raised, e, none)) (λ r. is ∙ zero (subst (Removes make m k) is r)) X
-      rest apart raised none (inr (e, removes)) =
-          let is : top ≡ getD barrier k 0 = rw apart (omega (arith, none)) in
-          gone make barrier (raise c m) b m ms k (omega (arith, raised, e, none)) (subst⁻¹ (Removes make m k) is removes) X
-
 -- one is handed, and the rest behind it
 module _ (p : Panel) (m : Message) (ms : List Message) (len : length (p .barrier) ≡ 64) (above : Above (p .barrier) (m ∷ ms)) (ordered : Ordered (m ∷ ms)) where
+  -- the barrier without what m removes
   c : List ℕ
   c = barrierFor (p .make) p m
 
@@ -108,9 +50,14 @@ module _ (p : Panel) (m : Message) (ms : List Message) (len : length (p .barrier
   unfolding c
   left k = barrierFor-left (p .make) p m k
 
+  left-most : (k : ℕ) → getD c k 0 ≤ getD (p .barrier) k 0
+  left-most k = left-le (p .make) m k _ _ (left k)
+
   range : m .source < length c
   unfolding c
   range = omega (arith, len, above m (first refl) .0, length-barrierFor (p .make) p m)
+
+  -- ---- the rest finds a barrier of 64 entries, and each is later than what that has of its source
 
   length-after : length (hand p m .barrier) ≡ 64
   unfolding c hand
@@ -121,18 +68,81 @@ module _ (p : Panel) (m : Message) (ms : List Message) (len : length (p .barrier
   above-after w i = (above w (later i) .0, by-cases (ℕ-discrete (w .source) (m .source)) same other)
     where
       same : w .source ≡ m .source → getD (raise c m) (w .source) 0 < w .deadline
-      same e =
-          rw e (omega (arith, raise-same c m range, left-le (p .make) m (m .source) _ _ (left (m .source)), above m (first refl) .1, ordered .1 w i .1 e))
+      same e = rw e (omega (arith, raise-same c m range, left-most (m .source), above m (first refl) .1, ordered .1 w i .1 e))
 
       other : w .source ≢ m .source → getD (raise c m) (w .source) 0 < w .deadline
-      other ne = omega (arith, raise-other c m (w .source) ne, left-le (p .make) m (w .source) _ _ (left (w .source)), above w (later i) .1)
+      other ne = omega (arith, raise-other c m (w .source) ne, left-most (w .source), above w (later i) .1)
+
+  -- ---- an entry
+
+  module _ (b : List ℕ) (k : ℕ) (X : Exact (p .make) (raise c m) ms b k) where
+    -- the largest of all, and of the rest
+    abbrev top : ℕ
+    top = topOf (p .barrier) (m ∷ ms) k
+
+    abbrev rest : ℕ
+    rest = topOf (raise c m) ms k
+
+    abbrev Whole : Type 0
+    Whole = Exact (p .make) (p .barrier) (m ∷ ms) b k
+
+    -- the largest stays, and m removes nothing
+    carry : rest ≡ top → (Removes (p .make) m k top → top ≡ 0) → Whole
+    carry e none = go X
+      where
+        every : ((w : Message) → w isIn ms → Removes (p .make) w k rest → rest ≡ 0) → (w : Message) → w isIn m ∷ ms → Removes (p .make) w k top → top ≡ 0
+        every each w (first q) r = none (subst (λ x. Removes (p .make) x k top) q r)
+        every each w (later i) r = sym e ∙ each w i (subst⁻¹ (Removes (p .make) w k) e r)
+
+        go : Exact (p .make) (raise c m) ms b k → Whole
+        go (inl (v, each)) = inl (v ∙ e, every each)
+        go (inr (v, w, i, r)) = inr (v, w, later i, subst (Removes (p .make) w k) e r)
+
+    -- m removes the entry, and none comes behind it
+    gone : rest ≡ 0 → Removes (p .make) m k top → Whole
+    gone e r = go X
+      where
+        go : Exact (p .make) (raise c m) ms b k → Whole
+        go (inl (v, each)) = inr (v ∙ e, m, first refl, r)
+        go (inr (v, _, _, _)) = inr (v, m, first refl, r)
+
+    -- an entry of its own source
+    same-source : k ≡ m .source → Whole
+    unfolding markIn
+    same-source e =
+        let here = eq-eqb (m .source) k (sym e) in
+        let raised : getD (raise c m) k 0 ≡ max (getD c (m .source) 0) (m .deadline) = rw e (raise-same c m range) in
+        carry (rw here (omega (arith, raised, left-most (m .source), above m (first refl) .1, ap (λ (n : ℕ). getD (p .barrier) n 0) e)))
+        (λ r. absurd (removes-not (p .make) m k top (rw here (omega (arith, ordered .0, ap (λ (n : ℕ). getD (m .entries) n 0) e))) r))
+
+    -- an entry of another source
+    other-source : k ≢ m .source → Whole
+    unfolding markIn
+    other-source ne =
+        by-cases (decLt 0 (markIn (map nameOf ms) k)) (λ pos. later-one (largest-of ms k pos)) (λ none. none-later none (left k))
+      where
+        apart : eqb (m .source) k ≡ false
+        apart = ne-eqb (m .source) k (λ e. ne (sym e))
+
+        raised : getD (raise c m) k 0 ≡ getD c k 0
+        raised = raise-other c m k ne
+
+        later-one : (w : Message) × (w isIn ms) × (w .source ≡ k) × (w .deadline ≡ markIn (map nameOf ms) k) → Whole
+        later-one (w, i, s, d) =
+            carry (rw apart (omega (arith, raised, left-most k, d, above w (later i) .1, ap (λ (n : ℕ). getD (p .barrier) n 0) s)))
+            (λ r. absurd (removes-not (p .make) m k top (rw apart (omega (arith, d, ordered .1 w i .0, ap (λ (n : ℕ). getD (m .entries) n 0) s))) r))
+
+        none-later : ¬ (0 < markIn (map nameOf ms) k) → LeftOf (p .make) m k (getD (p .barrier) k 0) (getD c k 0) → Whole
+        none-later none (inl (e, zero)) =
+            let is : top ≡ getD (p .barrier) k 0 = rw apart (omega (arith, none)) in
+            carry (omega (arith, is, raised, e, none)) (λ r. is ∙ zero (subst (Removes (p .make) m k) is r))
+        none-later none (inr (e, removes)) =
+            let is : top ≡ getD (p .barrier) k 0 = rw apart (omega (arith, none)) in
+            gone (omega (arith, raised, e, none)) (subst⁻¹ (Removes (p .make) m k) is removes)
 
   exact-after : (b : List ℕ) (k : ℕ) → Exact (p .make) (hand p m .barrier) ms b k → Exact (p .make) (p .barrier) (m ∷ ms) b k
   unfolding c hand
-  exact-after b k X =
-      by-cases (ℕ-discrete k (m .source))
-      (λ e. same-source (p .make) (p .barrier) c b m ms k (left k) e range (above m (first refl) .1) (ordered .0) X)
-      (λ ne. other-source (p .make) (p .barrier) c b m ms k (left k) ne (λ w i. (ordered .1 w i .0, above w (later i) .1)) X)
+  exact-after b k X = by-cases (ℕ-discrete k (m .source)) (same-source b k X) (other-source b k X)
 
 -- so it is after any number of them
 pub handAll-exact : (p : Panel) (ms : List Message) → length (p .barrier) ≡ 64 → Above (p .barrier) ms → Ordered ms

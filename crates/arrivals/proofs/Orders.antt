@@ -39,9 +39,8 @@ after list lawful promised₀ i make (frame ∷ frames) (last ∷ heard) (H, all
     let A = after list lawful promised₀ i make frames heard all promised in
     let L₀ = list-sound list lawful promised₀ in
     let F = sent-in list lawful i make frame frames last heard (H, all) promised in
-    let (s, R) = received (givenTo i make (heard ++ list)) frame (H .output) (F .readable) in
-    one-heard list i make frames heard A frame (H .output) last (H .there) (heard-promised i make frame last (sends list) (heard ++ list) H promise) s R F
-    (H .long-enough) (H .not-23)
+    let R = received (givenTo i make (heard ++ list)) frame (H .output) (F .readable) .1 in
+    one-heard A H (heard-promised (heard ++ list) H promise) R F
     (λ w h e.
     sent-unique (L₀ .sends-sound) (here-sent L₀ all A w h) (let (t, k, f) = H .was-sent in (t, k, ap (messageIn width) f)) e)
 

@@ -122,7 +122,7 @@ sent-in list lawful i make frame frames last heard (H, all) promised =
     }
 
 -- and it gave what is defined for it
-pub heard-promised : (i : ℕ) (make : Make) (frame : List ℕ) (last : Made) (ss : List Sent) (earlier : List Made) → (H : Heard ss i make frame last)
+pub heard-promised : {ss : List Sent} {i : ℕ} {make : Make} {frame : List ℕ} {last : Made} (earlier : List Made) → (H : Heard ss i make frame last)
     → Promised (givenTo (last .at) (last .make) earlier) (last .call) (last .result)
     → last .result ≡ defined (givenTo i make earlier) (receive frame (H .output))
-heard-promised i make frame last ss earlier H promise = promise ∙ (λ j. defined (givenTo (H .there j) (H .of-make j) earlier) (H .receives j))
+heard-promised earlier H promise = promise ∙ (λ j. defined (givenTo (H .there j) (H .of-make j) earlier) (H .receives j))

@@ -105,10 +105,11 @@
  *   has lapsed by the time alone, and may be received again once a wrong time is set back.
  *
  * The order of arrival. Frames may come in any order, and any number of times. Where panels sent
- * them, the clock is not called or set back between them, and none is refused with 23, a panel ends
- * with the same log records, the same waiting messages and the same time, high, marks, barrier and
- * floor, whatever the order; only the places in log and list may differ. A frame that was refused
- * with 23 may be received again, and is taken once fewer messages wait or it is ready.
+ * them, no other call comes between them, and none is refused with 23, a panel ends with the same
+ * log records, the same waiting messages and the same time, high, marks, barrier and floor,
+ * whatever the order; only the places in log and list may differ. A frame that was refused with 23
+ * may be received again, and is taken once fewer messages wait or it is ready, if it has not
+ * lapsed.
  *
  * Storing a record. It is plain data without pointers. It may be copied, or saved as its
  * sizeof(Panel) bytes and read back by the same version of this header, or by a later one that says

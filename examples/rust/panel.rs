@@ -12,9 +12,9 @@
 //! send longer frames. In all else they are the same. Each reads the frames of the others, no
 //! setting is needed, and the causal order of the logs holds in every mixture.
 //!
-//! Frames may come in any order, and any number of times. Where panels sent them, the clock is not
-//! called or set back between them, and none is refused with `Refusal::ListFull`, a panel ends with
-//! the same log records and the same waiting messages, whatever the order; only their places differ.
+//! Frames may come in any order, and any number of times. Where panels sent them, no other call
+//! comes between them, and none is refused with `Refusal::ListFull`, a panel ends with the same log
+//! records and the same waiting messages, whatever the order; only their places differ.
 #![no_std]
 
 use core::fmt;

@@ -31,7 +31,7 @@ use Rattle.arrivals.proofs.Receiving.{Takeable}
 
 -- ---- the checks
 
-pub isWaiting-true : (m : Message) (ws : List Message) → isWaiting m ws ≡ true → (w : Message) × (w isIn ws) × (nameOf w ≡ nameOf m)
+isWaiting-true : (m : Message) (ws : List Message) → isWaiting m ws ≡ true → (w : Message) × (w isIn ws) × (nameOf w ≡ nameOf m)
 unfolding isWaiting
 isWaiting-true m [] e = absurd (false≢true e)
 isWaiting-true m (x ∷ ws) e =

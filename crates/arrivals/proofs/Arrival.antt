@@ -9,8 +9,8 @@ use Rattle.rules.proofs.Reached.{list-sound}
 use Rattle.arrivals.specs.Arrival.{ArrivalOrder}
 use Rattle.arrivals.proofs.Sets.{same-set}
 use Rattle.arrivals.proofs.Barrier.{exact-same}
-use Rattle.arrivals.proofs.After.{same-time}
-use Rattle.arrivals.proofs.Orders.{order, records-once, waiting-once, exact}
+use Rattle.arrivals.proofs.AfterReceives.{same-time}
+use Rattle.arrivals.proofs.OneOrder.{order, records-once, waiting-once, exact}
 use Rattle.arrivals.proofs.TwoOrders.{handed, logged, waits, high-le, mark-le, floor-le, records-in}
 
 -- After every list of demand 3, set-back calls included: two orders of receiving the same frames end alike.

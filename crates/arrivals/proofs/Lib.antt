@@ -7,9 +7,9 @@ pub mod Removing
 pub mod Barrier
 pub mod Receiving
 pub mod TurnedDown
-pub mod After
-pub mod Ordering
-pub mod Orders
+pub mod AfterReceives
+pub mod LogOrder
+pub mod OneOrder
 pub mod TwoOrders
 pub mod Arrival
 pub mod Answers

@@ -4,12 +4,12 @@ use Prim.Native.Nat.{ℕ}
 use native.Mathlib.Omega.{arith}
 use mathlib.Core.Path.{_≡_, refl}
 use mathlib.Core.Bool.{cond}
-use mathlib.Core.List.{List, [], _∷_, _++_, List·Memᴰ·head as first, List·Memᴰ·tail as later}
+use mathlib.Core.List.{List, [], _∷_, _++_, List·Memᴰ·head as first, List·Memᴰ·tail as later, reverse-perm}
 use lib.ListN.{replicate, length-replicate}
 use Rattle.frame.specs.Refusal.{firstOf}
 use Rattle.frame.specs.Reading.{messageIn}
 use Rattle.rules.specs.Sizes.{width}
-use Rattle.rules.specs.Panel.{newMake, Panel, ready}
+use Rattle.rules.specs.Panel.{Make, newMake, Panel, ready}
 use Rattle.rules.specs.Settling.{withWaiting, Settled, handThen, settleIn}
 use Rattle.rules.specs.Refusals.{receiveChecks}
 use Rattle.rules.specs.Results.{Call, send, receive, clock, setBack, Result, refused, done, unless, defined}
@@ -18,6 +18,7 @@ use Rattle.rules.specs.Cases.{output, buffer, frameFrom}
 use Rattle.rules.specs.BenchCases.{deadline1, frame1, frame2}
 use Rattle.rules.proofs.Shams.{listsOpened, payload-bytes, empty-bytes}
 use Rattle.arrivals.specs.Arrival.{Heard, AllHeard, SameFrames, SameEnd}
+use Rattle.arrivals.proofs.Sets.{permuted-frames}
 use Rattle.arrivals.proofs.Arrival.{arrival-order}
 
 -- ---- the module
@@ -71,14 +72,22 @@ shamsOpened = tt
 
 pub same-frames : SameFrames asSent reversed
 unfolding asSent reversed
-same-frames frame = (turned frame3 frame2 frame1, turned frame1 frame2 frame3)
-  where
-    turned : (x y z : List ℕ) → frame isIn x ∷ y ∷ z ∷ [] → frame isIn z ∷ y ∷ x ∷ []
-    turned x y z (first e) = later (later (first e))
-    turned x y z (later (first e)) = later (first e)
-    turned x y z (later (later (first e))) = first e
+same-frames = permuted-frames (reverse-perm (frame1 ∷ frame2 ∷ frame3 ∷ []))
 
--- a receive of a frame that was sent, which is not refused
+-- a receive of a frame that was sent, with the output of the cases, which is not refused
+pub taken-heard : {ss : List Sent} (panel : ℕ) (make : Make) (frame : List ℕ) (made : Made) → (s : Sent) × (s isIn ss) × (s .frame ≡ frame)
+    → made .at ≡ panel → made .make ≡ make → made .call ≡ receive frame output → made .result .number ≡ 0 → Heard ss panel make frame made
+taken-heard panel make frame made sent at of-make receives taken =
+    record {
+      there = at;
+      of-make = of-make;
+      output = output;
+      receives = receives;
+      was-sent = sent;
+      long-enough = omega (arith, length-replicate {A = ℕ} 1254 7);
+      not-23 = λ e. omega (arith, e, taken);
+    }
+
 abbrev SentBy : (Panel → Call → Result) → List ℕ → Type 0
 SentBy gives frame = (s : Sent) × (s isIn sends (threeSent gives)) × (s .frame ≡ frame)
 
@@ -87,16 +96,7 @@ TakenBy gives frame earlier = heardNext gives frame (hears gives earlier) .resul
 
 heard-next : (gives : Panel → Call → Result) (frame : List ℕ) (earlier : List (List ℕ)) → SentBy gives frame → TakenBy gives frame earlier
     → Heard (sends (threeSent gives)) 0 newMake frame (heardNext gives frame (hears gives earlier))
-heard-next gives frame earlier sent taken =
-    record {
-      there = refl;
-      of-make = refl;
-      output = output;
-      receives = refl;
-      was-sent = sent;
-      long-enough = omega (arith, length-replicate {A = ℕ} 1254 7);
-      not-23 = λ e. omega (arith, e, taken);
-    }
+heard-next gives frame earlier sent taken = taken-heard 0 newMake frame (heardNext gives frame (hears gives earlier)) sent refl refl refl taken
 
 -- both orders, of a module with these frames that refuses none of the receives
 abbrev pub BothHeard : (Panel → Call → Result) → Type 0

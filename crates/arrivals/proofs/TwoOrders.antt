@@ -17,8 +17,8 @@ use Rattle.rules.proofs.Reached.{waits-for}
 use Rattle.arrivals.specs.Arrival.{recordsAt}
 use Rattle.arrivals.proofs.HandAll.{bare, handAll-high}
 use Rattle.arrivals.proofs.Receiving.{Takeable}
-use Rattle.arrivals.proofs.After.{HereAt, FromFrames, same-limit}
-use Rattle.arrivals.proofs.Orders.{Order, log-split, log-was, log-handed, new}
+use Rattle.arrivals.proofs.AfterReceives.{HereAt, FromFrames, same-limit}
+use Rattle.arrivals.proofs.OneOrder.{Order, log-split, log-was, log-handed, new}
 
 -- of the frames received in the one order, each is received in the other
 module _ {i : ℕ} {make : Make} {list : List Made} {framesOne framesTwo : List (List ℕ)} {one two : List Made} (O : Order i make list framesOne one)

@@ -1,10 +1,9 @@
 -- Two orders of arrival on the module's own records and bytes, so that nobody wonders whether any satisfies `AllHeard`: panel 3 has sent a note and a
 -- beacon that names it, and panel 0 hears them in place in the order sent, and by value and in place the other way round. Assumes nothing.
 use Prim.Native.Nat.{ℕ, _-_}
-use native.Mathlib.Omega.{arith}
 use mathlib.Core.Path.{_≡_, refl}
-use mathlib.Core.List.{List, [], _∷_, _++_, List·Memᴰ·head as first, List·Memᴰ·tail as later}
-use lib.ListN.{replicate, length-replicate}
+use mathlib.Core.List.{List, [], _∷_, _++_, List·Memᴰ·head as first, List·Memᴰ·tail as later, Perm·swap}
+use lib.ListN.{replicate}
 use Rattle.frame.specs.Reading.{reading}
 use Rattle.rules.specs.Panel.{newMake, none64}
 use Rattle.rules.specs.Results.{receive}
@@ -13,7 +12,9 @@ use Rattle.rules.specs.BenchCases.{deadline1, frame1, logged1, deadline2, frame
 use Rattle.rules.specs.Lists.{_isIn_, Sent, sends}
 use Rattle.slots.specs.Slots.{slotsLength, framed, frameAt, carried}
 use Rattle.panel.specs.declared.Panel.{Panel}
-use Rattle.arrivals.specs.Arrival.{Heard, AllHeard, SameFrames, SameEnd}
+use Rattle.arrivals.specs.Arrival.{Heard, AllHeard, SameEnd}
+use Rattle.arrivals.proofs.Sets.{permuted-frames}
+use Rattle.arrivals.proofs.Shams.{taken-heard}
 use Rattle.demands.specs.Runs.{Run, madeOf}
 use Rattle.demands.specs.Functions.{Ran, panel-receive-parts, panel-receive}
 use Rattle.demands.specs.Lists.{FarmCall, module-call, farm, Follows}
@@ -104,19 +105,10 @@ note-sent : (s : Sent) × (s isIn sends (farm from3)) × (s .frame ≡ frame1)
 unfolding listsOpened
 note-sent = (_, later (first refl), refl)
 
--- a receive of the module at panel 0, with an output long enough, which is not refused
+-- a receive of the module at panel 0, which is not refused
 heard : (frame : List ℕ) (run : Run) → (s : Sent) × (s isIn sends (farm from3)) × (s .frame ≡ frame) → run .given .own ≡ 0
     → run .call ≡ receive frame output → run .answer .number ≡ 0 → Heard (sends (farm from3)) 0 newMake frame (madeOf run)
-heard frame run sent own receives taken =
-    record {
-      there = own;
-      of-make = refl;
-      output = output;
-      receives = receives;
-      was-sent = sent;
-      long-enough = omega (arith, length-replicate {A = ℕ} 1254 7);
-      not-23 = λ e. omega (arith, e, taken);
-    }
+heard frame run sent own receives taken = taken-heard 0 newMake frame (madeOf run) sent own refl receives taken
 
 first-heard : AllHeard (sends (farm from3)) 0 newMake (frame2 ∷ frame1 ∷ []) (farm noteFirst)
 unfolding listsOpened
@@ -126,15 +118,9 @@ last-heard : AllHeard (sends (farm from3)) 0 newMake (frame1 ∷ frame2 ∷ []) 
 unfolding listsOpened
 last-heard = (heard frame1 (noteThen .0) note-sent refl refl refl, (heard frame2 (beaconFirst .0) beacon-sent refl refl refl, tt))
 
-same-frames : SameFrames (frame2 ∷ frame1 ∷ []) (frame1 ∷ frame2 ∷ [])
-same-frames frame = (turned frame2 frame1, turned frame1 frame2)
-  where
-    turned : (x y : List ℕ) → frame isIn x ∷ y ∷ [] → frame isIn y ∷ x ∷ []
-    turned x y (first e) = later (first e)
-    turned x y (later (first e)) = first e
-
 -- So they end alike.
 pub example-alike : SameEnd 0 (farm (noteFirst ++ from3)) (farm (noteLast ++ from3))
 example-alike =
-    farm-arrival-order from3 from3-follows from3-lawful 0 newMake (frame2 ∷ frame1 ∷ []) (frame1 ∷ frame2 ∷ []) same-frames noteFirst noteLast
+    farm-arrival-order from3 from3-follows from3-lawful 0 newMake (frame2 ∷ frame1 ∷ []) (frame1 ∷ frame2 ∷ [])
+    (permuted-frames (Perm·swap frame1 frame2 [])) noteFirst noteLast
     first-follows last-follows first-heard last-heard

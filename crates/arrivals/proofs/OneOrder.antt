@@ -21,8 +21,8 @@ use Rattle.arrivals.proofs.Records.{nameAt, log-names}
 use Rattle.arrivals.proofs.HandAll.{bare}
 use Rattle.arrivals.proofs.Barrier.{Exact, handAll-exact}
 use Rattle.arrivals.proofs.Receiving.{received}
-use Rattle.arrivals.proofs.After.{HereAt, FromFrames, After, none-heard, one-heard}
-use Rattle.arrivals.proofs.Ordering.{ahead-append, ordered-end, above-end}
+use Rattle.arrivals.proofs.AfterReceives.{HereAt, FromFrames, After, none-heard, one-heard}
+use Rattle.arrivals.proofs.LogOrder.{ahead-append, ordered-end, above-end}
 
 -- what was handed or waits was sent
 here-sent : {i : ℕ} {make : Make} {list : List Made} {frames : List (List ℕ)} {heard : List Made} → ListSound list → AllHeard (sends list) i make frames heard

@@ -6,7 +6,7 @@ use mathlib.Core.Path.{_≡_, refl, sym, ap, _∙_, subst, subst⁻¹}
 use mathlib.Core.Logic.{_⊎_, inl, inr, ⊎-elim, _≢_, by-cases}
 use mathlib.Core.List.{List, [], _∷_, _++_, map, map-append, append-assoc, append-nil, List·Memᴰ·head as first, List·Memᴰ·tail as later, List·Memᴰ·append-cases, Memᴰ·append-left, Memᴰ·append-right, Memᴰ·cast, Memᴰ·of-map}
 use Rattle.frame.specs.Message.{Message}
-use Rattle.frame.specs.Reading.{messageIn}
+use Rattle.frame.specs.Reading.{messageFrom}
 use Rattle.rules.specs.Sizes.{width}
 use Rattle.rules.specs.Panel.{Name, nameOf, Make, Panel, ofMake}
 use Rattle.rules.specs.Handing.{logRecord}
@@ -31,7 +31,7 @@ HereAt i handed list w = (w isIn handed) ⊎ (w isIn recordAt i list .waiting)
 
 -- w is the message of one of the frames, and can be taken
 abbrev pub FromFrames : Panel → List (List ℕ) → Message → Type 0
-FromFrames p frames w = (frame : List ℕ) × (frame isIn frames) × (messageIn width frame ≡ w) × Takeable p w
+FromFrames p frames w = (frame : List ℕ) × (frame isIn frames) × (messageFrom frame ≡ w) × Takeable p w
 
 pub record After (i : ℕ) (make : Make) (list : List Made) (frames : List (List ℕ)) (heard : List Made) : Type 0 where
   -- the messages handed meanwhile, in order
@@ -41,8 +41,8 @@ pub record After (i : ℕ) (make : Make) (list : List Made) (frames : List (List
   pub records : recordsAt i (heard ++ list) ≡ recordsAt i list ++ map logRecord handed
   -- what waited, and what can be taken of the frames and was not in the log, was handed or waits; and nothing else
   pub kept : (w : Message) → w isIn recordAt i list .waiting → HereAt i handed (heard ++ list) w
-  pub came : (frame : List ℕ) → frame isIn frames → Takeable (givenTo i make list) (messageIn width frame)
-      → (nameIn frame isIn logAt i list) ⊎ HereAt i handed (heard ++ list) (messageIn width frame)
+  pub came : (frame : List ℕ) → frame isIn frames → Takeable (givenTo i make list) (messageFrom frame)
+      → (nameIn frame isIn logAt i list) ⊎ HereAt i handed (heard ++ list) (messageFrom frame)
   pub only : (w : Message) → HereAt i handed (heard ++ list) w → (w isIn recordAt i list .waiting) ⊎ FromFrames (givenTo i make list) frames w
 
 module _ {i : ℕ} {make : Make} {list : List Made} {frames : List (List ℕ)} {heard : List Made} (A : After i make list frames heard) where
@@ -93,9 +93,9 @@ module _ {i : ℕ} {make : Make} {list : List Made} {frames : List (List ℕ)} {
 
   -- what a receive of a frame gave
   module _ {frame : List ℕ} {last : Made} (H : Heard (sends list) i make frame last) (promise : last .result ≡ defined p (receive frame (H .output)))
-      {s : Settled} (R : Received p (messageIn width frame) (defined p (receive frame (H .output))) s) where
+      {s : Settled} (R : Received p (messageFrom frame) (defined p (receive frame (H .output))) s) where
     abbrev m : Message
-    m = messageIn width frame
+    m = messageFrom frame
 
     abbrev now : List Made
     now = last ∷ earlier
@@ -169,11 +169,11 @@ module _ {i : ℕ} {make : Make} {list : List Made} {frames : List (List ℕ)} {
           placed (turned-down earlier i make frame (H .output) F (H .long-enough) refuses (subst (λ (r : Result). r .number ≢ 23) promise (H .not-23))
           (takeable-now m t)))
 
-      came-now : (f : List ℕ) → f isIn frame ∷ frames → Takeable p₀ (messageIn width f)
-          → (nameIn f isIn logAt i list) ⊎ HereAt i handed now (messageIn width f)
+      came-now : (f : List ℕ) → f isIn frame ∷ frames → Takeable p₀ (messageFrom f)
+          → (nameIn f isIn logAt i list) ⊎ HereAt i handed now (messageFrom f)
       came-now f (first e) t =
-          subst⁻¹ (λ x. Takeable p₀ (messageIn width x) → (nameIn x isIn logAt i list) ⊎ HereAt i handed now (messageIn width x)) e this-came t
-      came-now f (later k) t = ⊎-elim (λ j. inl j) (λ h. inr (stays (messageIn width f) h)) (A .came f k t)
+          subst⁻¹ (λ x. Takeable p₀ (messageFrom x) → (nameIn x isIn logAt i list) ⊎ HereAt i handed now (messageFrom x)) e this-came t
+      came-now f (later k) t = ⊎-elim (λ j. inl j) (λ h. inr (stays (messageFrom f) h)) (A .came f k t)
 
       pub one-heard : After i make list (frame ∷ frames) (last ∷ heard)
       one-heard =

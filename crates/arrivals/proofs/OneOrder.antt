@@ -4,7 +4,7 @@ use mathlib.Core.Path.{_≡_, ap, subst, subst⁻¹}
 use mathlib.Core.Logic.{_⊎_, inl, inr, ⊎-elim}
 use mathlib.Core.List.{List, [], _∷_, _++_, map, List·Memᴰ·append-cases, Memᴰ·append-left, Memᴰ·append-right, Memᴰ·map, Memᴰ·of-map, List·Nodup}
 use Rattle.frame.specs.Message.{Message}
-use Rattle.frame.specs.Reading.{messageIn}
+use Rattle.frame.specs.Reading.{messageFrom}
 use Rattle.rules.specs.Sizes.{width}
 use Rattle.rules.specs.Panel.{Name, nameOf, Make, Panel}
 use Rattle.rules.specs.Lists.{_isIn_, Made, recordAt, givenTo, logAt, sends, Lawful, AllPromised}
@@ -42,7 +42,7 @@ after list lawful promised₀ i make (frame ∷ frames) (last ∷ heard) (H, all
     let R = received (givenTo i make (heard ++ list)) frame (H .output) (F .readable) .1 in
     one-heard A H (heard-promised (heard ++ list) H promise) R F
     (λ w h e.
-    sent-unique (L₀ .sends-sound) (here-sent L₀ all A w h) (let (t, k, f) = H .was-sent in (t, k, ap (messageIn width) f)) e)
+    sent-unique (L₀ .sends-sound) (here-sent L₀ all A w h) (let (t, k, f) = H .was-sent in (t, k, ap (λ (bs : List ℕ). messageFrom bs) f)) e)
 
 -- the receives, what they hand, and that it is a list of demand 3
 pub record Order (i : ℕ) (make : Make) (list : List Made) (frames : List (List ℕ)) (heard : List Made) : Type 0 where

@@ -5,7 +5,7 @@ use mathlib.Core.Path.{_≡_, refl}
 use mathlib.Core.Logic.{_⊎_, inl, inr, ⊎-elim}
 use mathlib.Core.List.{List, [], _∷_, _++_, map, List·Memᴰ·head as first, List·Memᴰ·tail as later, Memᴰ·append-left, Memᴰ·append-right}
 use Rattle.frame.specs.Message.{Message}
-use Rattle.frame.specs.Reading.{messageIn}
+use Rattle.frame.specs.Reading.{messageFrom}
 use Rattle.frame.proofs.Readable.{Readable}
 use Rattle.rules.specs.Sizes.{width}
 use Rattle.rules.specs.Panel.{nameOf, Panel, ready}
@@ -83,11 +83,11 @@ pub record Received (p : Panel) (m : Message) (result : Result) (s : Settled) : 
   pub only : (w : Message) → Here s w → (w isIn p .waiting) ⊎ ((w ≡ m) × Takeable p m)
   pub taken : result .number ≡ 0 → Here s m
 
-pub received : (p : Panel) (bytes output : List ℕ) → Readable width (messageIn width bytes)
-    → (s : Settled) × Received p (messageIn width bytes) (defined p (receive bytes output)) s
+pub received : (p : Panel) (bytes output : List ℕ) → Readable width (messageFrom bytes)
+    → (s : Settled) × Received p (messageFrom bytes) (defined p (receive bytes output)) s
 unfolding refused done namesIn recordsIn handAll
 received p bytes output readable =
-    let m = messageIn width bytes in
+    let m = messageFrom bytes in
     defined-both (λ r. (s : Settled) × Received p m r s) p (receive bytes output)
     (λ n e. (
       record { panel = p; handed = [] },

@@ -7,7 +7,7 @@ use lib.ListN.{length}
 use lib.Dec.{eqb}
 use borrow.Author.Tests.{eqb-true}
 use Rattle.frame.specs.Message.{Message}
-use Rattle.frame.specs.Reading.{refusal, messageIn}
+use Rattle.frame.specs.Reading.{refusal, refusalOf, messageFrom}
 use Rattle.frame.proofs.Readable.{Readable}
 use Rattle.frame.proofs.Passed.{passed-zero, reading-message}
 use Rattle.rules.specs.Sizes.{width}
@@ -31,11 +31,11 @@ sent-unique S (s, i, e) (t, j, f) same = sym e ∙ ap carried (S .unique s t i j
 -- ---- frames
 
 call-reads : (p : Panel) (ss : List Sent) (call : Call) → length (p .barrier) ≡ 64 → Given ss call (defined p call)
-    → (frame : List ℕ) → frame isIn framesSent call (defined p call) → refusal width frame ≡ 0
+    → (frame : List ℕ) → frame isIn framesSent call (defined p call) → refusalOf frame ≡ 0
 unfolding Given framesSent
 call-reads p ss (send payload lifetime output buffer) len bytes frame =
     let result = defined p (send payload lifetime output buffer) in
-    cond-both (λ (frames : List (List ℕ)). frame isIn frames → refusal width frame ≡ 0) (eqb (result .number) 0)
+    cond-both (λ (frames : List (List ℕ)). frame isIn frames → refusalOf frame ≡ 0) (eqb (result .number) 0)
     (λ e i.
     ap (refusal width) (List·Memᴰ·eq-of-singleton i)
     ∙ passed-zero width _
@@ -52,9 +52,9 @@ sends-read (last ∷ earlier) (given, lawful) (promise, promised) s i =
     (sends-read earlier lawful promised s)
     (List·Memᴰ·append-cases (map (λ frame. record { frame = frame; past = logAt (last .at) earlier }) (framesSent (last .call) (last .result))) i)
   where
-    reads : (frame : List ℕ) → frame isIn framesSent (last .call) (last .result) → refusal width frame ≡ 0
+    reads : (frame : List ℕ) → frame isIn framesSent (last .call) (last .result) → refusalOf frame ≡ 0
     reads =
-        subst⁻¹ (λ (r : Result). Given (sends earlier) (last .call) r → (frame : List ℕ) → frame isIn framesSent (last .call) r → refusal width frame ≡ 0) promise
+        subst⁻¹ (λ (r : Result). Given (sends earlier) (last .call) r → (frame : List ℕ) → frame isIn framesSent (last .call) r → refusalOf frame ≡ 0) promise
         (call-reads (givenTo (last .at) (last .make) earlier) (sends earlier) (last .call) (list-sound earlier lawful promised .sites (last .at) .sound .summary .barrier-64))
         given
 
@@ -93,10 +93,10 @@ heard-lawful list lawful i make (frame ∷ frames) (last ∷ heard) (H, all) =
 
 -- each of the frames was sent
 pub frames-sent : (ss : List Sent) (i : ℕ) (make : Make) (frames : List (List ℕ)) (heard : List Made) → AllHeard ss i make frames heard
-    → (frame : List ℕ) → frame isIn frames → WasSent ss (messageIn width frame)
+    → (frame : List ℕ) → frame isIn frames → WasSent ss (messageFrom frame)
 frames-sent ss i make [] [] all frame k = elim k [ ]
 frames-sent ss i make (x ∷ frames) (last ∷ heard) (H, all) frame (first e) =
-    let (s, k, f) = H .was-sent in (s, k, ap (messageIn width) (f ∙ sym e))
+    let (s, k, f) = H .was-sent in (s, k, ap (λ (bs : List ℕ). messageFrom bs) (f ∙ sym e))
 frames-sent ss i make (x ∷ frames) (last ∷ heard) (H, all) frame (later k) = frames-sent ss i make frames heard all frame k
 
 -- ---- a frame, and a list of demand 3 that sent it
@@ -104,8 +104,8 @@ frames-sent ss i make (x ∷ frames) (last ∷ heard) (H, all) frame (later k) =
 pub record SentIn (list : List Made) (frame : List ℕ) : Type 0 where
   pub sound : ListSound list
   pub sent : (s : Sent) × (s isIn sends list) × (s .frame ≡ frame)
-  pub read : refusal width frame ≡ 0
-  pub readable : Readable width (messageIn width frame)
+  pub read : refusalOf frame ≡ 0
+  pub readable : Readable width (messageFrom frame)
 
 -- so it is at each of the receives
 pub sent-in : (list : List Made) → Lawful list → (i : ℕ) (make : Make) (frame : List ℕ) (frames : List (List ℕ)) (last : Made) (heard : List Made)
@@ -118,7 +118,7 @@ sent-in list lawful i make frame frames last heard (H, all) promised =
       sound = L;
       sent = (s, k, e);
       read = ap (refusal width) (sym e) ∙ sends-read (heard ++ list) lawful′ promised s k;
-      readable = subst (λ bytes. Readable width (messageIn width bytes)) e (L .sends-sound .readable s k);
+      readable = subst (λ bytes. Readable width (messageFrom bytes)) e (L .sends-sound .readable s k);
     }
 
 -- and it gave what is defined for it

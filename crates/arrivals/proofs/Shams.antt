@@ -7,14 +7,14 @@ use mathlib.Core.Bool.{cond}
 use mathlib.Core.List.{List, [], _∷_, _++_, List·Memᴰ·head as first, List·Memᴰ·tail as later, reverse-perm}
 use lib.ListN.{replicate, length-replicate}
 use Rattle.frame.specs.Refusal.{firstOf}
-use Rattle.frame.specs.Reading.{messageIn}
+use Rattle.frame.specs.Reading.{messageFrom}
 use Rattle.rules.specs.Sizes.{width}
 use Rattle.rules.specs.Panel.{Make, newMake, Panel, ready}
 use Rattle.rules.specs.Settling.{withWaiting, Settled, handThen, settleIn}
 use Rattle.rules.specs.Refusals.{receiveChecks}
 use Rattle.rules.specs.Results.{Call, send, receive, clock, setBack, Result, refused, done, unless, defined}
 use Rattle.rules.specs.Lists.{_isIn_, Made, givenTo, Sent, sends, Given, ran}
-use Rattle.rules.specs.Cases.{output, buffer, frameFrom}
+use Rattle.rules.specs.Cases.{output, buffer, frameFrom, zeros4}
 use Rattle.rules.specs.BenchCases.{deadline1, frame1, frame2}
 use Rattle.rules.proofs.Shams.{listsOpened, payload-bytes, empty-bytes}
 use Rattle.arrivals.specs.Arrival.{Heard, AllHeard, SameFrames, SameEnd}
@@ -29,7 +29,7 @@ settleOne = settleIn 1
 pub settlesOne : Panel → Call → Result
 settlesOne p (send payload lifetime output buffer) = defined p (send payload lifetime output buffer)
 settlesOne p (receive bytes output) =
-    let m = messageIn width bytes in
+    let m = messageFrom bytes in
     unless (firstOf (receiveChecks p bytes output)) (refused p output [])
     (done (cond (ready p m) (handThen settleOne p m) (settleOne (withWaiting p (p .waiting ++ (m ∷ []))))) output [] [])
 settlesOne p (clock time output) = defined p (clock time output)
@@ -39,7 +39,7 @@ settlesOne p (setBack reading) = defined p (setBack reading)
 
 -- the third message names the second
 pub frame3 : List ℕ
-frame3 = frameFrom (0x03 ∷ 0x00 ∷ 0x00 ∷ 0x1c ∷ 0x86 ∷ replicate 7 0x00) (0x08 ∷ 0x00 ∷ 0x00 ∷ 0x1c ∷ 0x85 ∷ 0x00 ∷ [])
+frame3 = frameFrom (0x03 ∷ zeros4 (0x00 ∷ 0x00 ∷ 0x1c ∷ 0x86 ∷ replicate 7 0x00)) (0x08 ∷ zeros4 (0x00 ∷ 0x00 ∷ 0x1c ∷ 0x85 ∷ 0x00 ∷ []))
 
 pub threeSent : (Panel → Call → Result) → List Made
 threeSent gives =

@@ -10,7 +10,7 @@ use lib.Dec.{leb, eqb}
 use borrow.Author.Tests.{eqb-true, leb-true, le-ltb}
 use Rattle.frame.specs.Message.{Message}
 use Rattle.frame.specs.Refusal.{firstOf}
-use Rattle.frame.specs.Reading.{checks, refusal, messageIn}
+use Rattle.frame.specs.Reading.{checks, widthIn, refusalOf, messageFrom}
 use Rattle.frame.proofs.Conjunction.{and-both}
 use Rattle.frame.proofs.FirstOf.{eachNumber, firstOf-right}
 use Rattle.rules.specs.Sizes.{width, outputLength}
@@ -56,11 +56,11 @@ unfolding messageChecks firstOf tooFarAhead
 messageChecks-rest p m own (_, alive, near) new =
     rw (own, alive-not-lapsed p (m .deadline) alive, le-ltb (p .time + farthestAhead) (m .deadline) near, new) refl
 
-receive-number : (p : Panel) (bytes output : List ℕ) → broken p ≡ false → outputLength ≤ length output → refusal width bytes ≡ 0
-    → firstOf (receiveChecks p bytes output) ≡ firstOf (messageChecks p (messageIn width bytes))
+receive-number : (p : Panel) (bytes output : List ℕ) → broken p ≡ false → outputLength ≤ length output → refusalOf bytes ≡ 0
+    → firstOf (receiveChecks p bytes output) ≡ firstOf (messageChecks p (messageFrom bytes))
 unfolding receiveChecks firstOf eachNumber checks
 receive-number p bytes output whole room read =
-    rw (whole, le-ltb (length output) outputLength room) (firstOf-right (checks width bytes) (messageChecks p (messageIn width bytes)) refl read)
+    rw (whole, le-ltb (length output) outputLength room) (firstOf-right (checks (widthIn bytes) bytes) (messageChecks p (messageFrom bytes)) refl read)
 
 -- ---- a receive of a frame that was sent
 
@@ -72,7 +72,7 @@ module _ (earlier : List Made) (i : ℕ) (make : Make) (bytes output : List ℕ)
   p = givenTo i make earlier
 
   abbrev m : Message
-  m = messageIn width bytes
+  m = messageFrom bytes
 
   known : Known (sends earlier) (nameOf m)
   known = let (s, k, e) = F .sent in (s, k, ap nameIn e)

@@ -7,16 +7,16 @@ use lib.ListN.{replicate}
 use Rattle.frame.specs.Message.{Message, messageOf}
 use Rattle.rules.specs.Panel.{oldMake, Panel, ofMake, none64}
 use Rattle.rules.specs.Results.{receive, clock}
-use Rattle.rules.specs.Cases.{Step, step, of, panelOf, withFloor, output, logged, frameFrom, zeros8, taken, refusedWith}
+use Rattle.rules.specs.Cases.{Step, step, of, panelOf, withFloor, output, logged, frameFrom, zeros4, zeros8, taken, refusedWith}
 use Rattle.rules.specs.BenchCases.{frame1, logged1, frame2, logged2}
 
 -- an empty message without entries, from panel 3 or 5
 unfoldable pub emptyFrom : ℕ → ℕ → ℕ → List ℕ
-emptyFrom source high low = frameFrom (source ∷ 0x00 ∷ 0x00 ∷ high ∷ low ∷ zeros8) (0x00 ∷ [])
+emptyFrom source high low = frameFrom (source ∷ zeros4 (0x00 ∷ 0x00 ∷ high ∷ low ∷ zeros8)) (0x00 ∷ [])
 
 -- the log record of an empty message
 abbrev pub loggedFrom : ℕ → ℕ → ℕ → List ℕ
-loggedFrom source high low = logged (source ∷ 0x00 ∷ 0x00 ∷ high ∷ low ∷ 0 ∷ [])
+loggedFrom source high low = logged (source ∷ zeros4 (0x00 ∷ 0x00 ∷ high ∷ low ∷ 0 ∷ []))
 
 -- a fresh panel 0
 abbrev pub fresh0 : Panel
@@ -73,7 +73,7 @@ answersLogged source (suc n) = loggedFrom source 0x1c 0x85 ∷ answersLogged (su
 
 unfoldable pub case23 : List Step
 case23 =
-    let from36 = frameFrom (0x24 ∷ 0x00 ∷ 0x00 ∷ 0x1c ∷ 0x85 ∷ replicate 7 0x00) (0x08 ∷ 0x00 ∷ 0x00 ∷ 0x1c ∷ 0x84 ∷ 0x00 ∷ []) in
+    let from36 = frameFrom (0x24 ∷ zeros4 (0x00 ∷ 0x00 ∷ 0x1c ∷ 0x85 ∷ replicate 7 0x00)) (0x08 ∷ zeros4 (0x00 ∷ 0x00 ∷ 0x1c ∷ 0x84 ∷ 0x00 ∷ [])) in
     let full = panelOf 0 0 0 none64 none64 (answers 4 32) in
     let has : List (ℕ × ℕ) → Panel = λ names. panelOf 0 0 7301 (of ((3, 7300) ∷ names)) (of names) [] in
     let without36 = has (answersNamed 4 32) in
@@ -116,7 +116,7 @@ caseShortOutput =
 
 unfoldable pub caseMakeChanged : List Step
 caseMakeChanged =
-    let from1 = frameFrom (0x01 ∷ 0x00 ∷ 0x00 ∷ 0x1c ∷ 0x85 ∷ replicate 7 0x00) (0x08 ∷ 0x00 ∷ 0x00 ∷ 0x1c ∷ 0x84 ∷ 0x00 ∷ []) in
+    let from1 = frameFrom (0x01 ∷ zeros4 (0x00 ∷ 0x00 ∷ 0x1c ∷ 0x85 ∷ replicate 7 0x00)) (0x08 ∷ zeros4 (0x00 ∷ 0x00 ∷ 0x1c ∷ 0x84 ∷ 0x00 ∷ [])) in
     let from5 = emptyFrom 5 0x1c 0xe8 in
     let has1 = hasLogged 0 7300 ((3, 7300) ∷ []) in
     let with1 = hasLogged 0 7301 ((1, 7301) ∷ (3, 7300) ∷ []) in

@@ -9,7 +9,7 @@ use lib.ListN.{length, getD}
 use Rattle.numbers.specs.Buffer.{over}
 use Rattle.frame.specs.Message.{Message, present}
 use Rattle.frame.specs.Refusal.{firstOf}
-use Rattle.frame.specs.Reading.{messageIn}
+use Rattle.frame.specs.Reading.{messageFrom}
 use Rattle.frame.proofs.EachNumber.{lt-eachBelow}
 use Rattle.frame.proofs.Places.{length-frame}
 use Rattle.rules.specs.Sizes.{width}
@@ -60,7 +60,7 @@ module _ (p : Panel) (make : Make) (b : List ℕ) (B : Beside p b) where
 
   effect-beside : (call : Call) → BesideSettled make (effectOf p call) (effectOf q call)
   effect-beside (send payload lifetime output buffer) = sending-beside payload lifetime
-  effect-beside (receive bytes output) = receiving-beside (messageIn width bytes)
+  effect-beside (receive bytes output) = receiving-beside (messageFrom bytes)
   effect-beside (clock time output) = clocking-beside time
   effect-beside (setBack reading) = setting-back-beside reading
 

@@ -9,7 +9,7 @@ use Rattle.rules.specs.Handing.{shortened}
 use Rattle.rules.specs.Results.{Call, send, receive, clock, setBack, Result, defined}
 use Rattle.rules.specs.Lists.{Made, direct, Lawful, ran}
 use Rattle.rules.specs.Demand3.{NoneAhead}
-use Rattle.rules.specs.Cases.{output, buffer, frameFrom, zeros8}
+use Rattle.rules.specs.Cases.{output, buffer, frameFrom, zeros4, zeros8}
 use Rattle.rules.proofs.Shams.{listsOpened, empty-bytes}
 use Rattle.barriers.specs.Barriers.{withBarrier}
 
@@ -23,13 +23,13 @@ removesByTheMark p (setBack reading) = defined p (setBack reading)
 -- Panel 1 sends A, panel 2 sends B; panel 3 hears both, and sends C. Its frame names B alone, as the entry of A was removed when B came, though B
 -- does not name A. Panel 0 hears B, then C, and A at the end.
 frameA : List ℕ
-frameA = frameFrom (0x01 ∷ 0x00 ∷ 0x00 ∷ 0x00 ∷ 0x64 ∷ zeros8) (0x00 ∷ [])
+frameA = frameFrom (0x01 ∷ zeros4 (0x00 ∷ 0x00 ∷ 0x00 ∷ 0x64 ∷ zeros8)) (0x00 ∷ [])
 
 frameB : List ℕ
-frameB = frameFrom (0x02 ∷ 0x00 ∷ 0x00 ∷ 0x00 ∷ 0xc8 ∷ zeros8) (0x00 ∷ [])
+frameB = frameFrom (0x02 ∷ zeros4 (0x00 ∷ 0x00 ∷ 0x00 ∷ 0xc8 ∷ zeros8)) (0x00 ∷ [])
 
 frameC : List ℕ
-frameC = frameFrom (0x03 ∷ 0x00 ∷ 0x00 ∷ 0x01 ∷ 0x2c ∷ replicate 7 0x00) (0x04 ∷ 0x00 ∷ 0x00 ∷ 0x00 ∷ 0xc8 ∷ 0x00 ∷ [])
+frameC = frameFrom (0x03 ∷ zeros4 (0x00 ∷ 0x00 ∷ 0x01 ∷ 0x2c ∷ replicate 7 0x00)) (0x04 ∷ zeros4 (0x00 ∷ 0x00 ∷ 0x00 ∷ 0xc8 ∷ 0x00 ∷ []))
 
 pub forgotten : List Made
 forgotten =

@@ -4,6 +4,7 @@
 use lifetimes::BEACON_LIFETIME;
 use parts::Answer;
 use sending::send_in_place;
+use slots::SLOTS;
 ghost use Rattle.rules.specs.Calls.{beaconLifetime};
 ghost use Rattle.rules.specs.Results.{send};
 ghost use Rattle.parts.specs.Record.{parts, PromisedInPlace};
@@ -12,13 +13,13 @@ ghost use Rattle.parts.specs.Record.{parts, PromisedInPlace};
 #[no_mangle]
 pub extern "C" fn panel_beacon_parts(
     own: u8,
-    time: u32,
-    high: &mut u32,
+    time: u64,
+    high: &mut u64,
     count: &mut usize,
-    marks: &mut [u32; 64],
-    barrier: &mut [u32; 64],
-    slots: &mut [u8; 9888],
-    floor: &mut u32,
+    marks: &mut [u64; 64],
+    barrier: &mut [u64; 64],
+    slots: &mut [u8; SLOTS],
+    floor: &mut u64,
     payload: &[u8],
     output: &mut [u8],
     buffer: &mut [u8],

@@ -6,7 +6,7 @@ use numbers::number_at;
 ghost use mathlib.Core.Path.{_≡_};
 ghost use Prim.Native.Nat.{_+_, _≤_};
 ghost use lib.ListN.{length, take, drop};
-ghost use Rattle.frame.specs.Reading.{reading};
+ghost use Rattle.frame.specs.Reading.{readingOf};
 ghost use Rattle.frame.specs.Answer.{fieldsOf};
 ghost use Rattle.bundle.specs.Bundle.{stepAt, frameAt, Part, FramePart, Gives, answerOf};
 
@@ -141,7 +141,7 @@ pub fn part_at(bundle: &[u8], place: usize) -> &[u8]
 // The reading of the frame at a place: the part in the middle of the bundle is passed to the frame
 // reading.
 pub fn read_at(bundle: &[u8], place: usize) -> Fields
-    ensures { λ r. ⌜ r ≡ fieldsOf (reading 4 (frameAt (now (bundle .entry)) place)) ⌝ }
+    ensures { λ r. ⌜ r ≡ fieldsOf (readingOf (frameAt (now (bundle .entry)) place)) ⌝ }
 {
     frame::read(part_at(bundle, place))
 }

@@ -8,7 +8,7 @@ ghost use Rattle.panel.specs.Record.{recordOf, GivenBack};
 ghost use Rattle.by_value.specs.Answers.{clockedResult};
 
 // The clock shows a time: the log records stand in the output.
-pub fn panel_clock(mut p: Panel, time: u32, output: &mut [u8]) -> Clocked
+pub fn panel_clock(mut p: Panel, time: u64, output: &mut [u8]) -> Clocked
     ensures { λ r. ⌜ Promised (recordOf p) (clock time (now (output .entry))) (clockedResult r (now (output .exit))) ⌝ }
     ensures { λ r. ⌜ GivenBack (r .number) p (r .panel) ⌝ }
 {

@@ -8,7 +8,7 @@ ghost use Rattle.panel.specs.Record.{recordOf, GivenBack};
 ghost use Rattle.by_value.specs.Answers.{setBackResult};
 
 // The time becomes the lower of its own and the reading; all else is as it was.
-pub fn panel_set_back(mut p: Panel, reading: u32) -> SetBack
+pub fn panel_set_back(mut p: Panel, reading: u64) -> SetBack
     ensures { λ r. ⌜ Promised (recordOf p) (setBack reading) (setBackResult r) ⌝ }
     ensures { λ r. ⌜ GivenBack (r .number) p (r .panel) ⌝ }
 {

@@ -1,7 +1,9 @@
 // The checks of a receive: the number of the first that turns a frame down, on a record that is only
-// read. An internal crate. Preconditions: the bytes of slots; for the last checks a readable frame.
+// read. An internal crate. Preconditions: the bytes of slots; a frame that does not read in version 1, and
+// for the last checks one that reads in version 2.
 use choosing::ready;
 use frame::frame_check;
+use parts::OUTPUT;
 use parts::broken;
 use slots::deadline;
 use slots::has_lapsed;
@@ -11,12 +13,13 @@ ghost use mathlib.Core.Path.{_≡_};
 ghost use mathlib.Core.List.{[]};
 ghost use Rattle.frame.specs.Refusal.{firstOf};
 ghost use Rattle.frame.specs.Reading.{messageIn};
+ghost use Rattle.rules.specs.Sizes.{width};
 ghost use Rattle.rules.specs.Panel.{ready as isReady};
 ghost use Rattle.rules.specs.Refusals.{messageChecks, receiveChecks};
 ghost use Rattle.slots.specs.Slots.{Reads, Slots, Kept};
 ghost use Rattle.choosing.specs.Choice.{asking};
 ghost use Rattle.parts.specs.Record.{parts, recordOf};
-ghost use Rattle.checking.specs.Checks.{frameChecksOn, earlyChecks, fullNumber};
+ghost use Rattle.checking.specs.Checks.{frameChecksOn, NotNarrow, earlyChecks, fullNumber};
 
 // The number of the first check that turns down a frame before its message is looked at, or 0: 26, 10, 1 to 8.
 fn frame_number(broken: bool, output: usize, frame: &[u8]) -> u8
@@ -25,29 +28,29 @@ fn frame_number(broken: bool, output: usize, frame: &[u8]) -> u8
     if broken {
         return 26; // the record is broken
     }
-    if output < 1254 {
+    if output < OUTPUT {
         return 10; // the output is short
     }
     frame_check(frame)
 }
 
 // Document 02, W-205: "A received deadline above time + 1,209,600 (14 days) is now refused."
-const FARTHEST_AHEAD: u32 = 1209600;
+const FARTHEST_AHEAD: u64 = 1209600;
 
 // The number of the first check but the last that turns down a message that was read, or 0: 20, 21, 32, 22. That
-// of 32 takes the time from the deadline, which is not below it past 21: a sum could pass 32 bits.
+// of 32 takes the time from the deadline, which is not below it past 21: a sum could pass 64 bits.
 fn early_number<'a, 'b>(
     own: u8,
-    time: u32,
+    time: u64,
     count: usize,
-    marks: &'a [u32; 64],
+    marks: &'a [u64; 64],
     slots: &'a [u8],
-    floor: u32,
+    floor: u64,
     frame: &'b [u8],
 ) -> u8
     requires { ⌜ Reads (now frame) × Slots (now slots) × Kept (now slots) count ⌝ }
     ensures { λ r. ⌜ r ≡ firstOf (earlyChecks (recordOf (parts own time 0 count (now (marks .entry)) [] (now (slots .entry)) floor))
-        (messageIn 4 (now (frame .entry)))) ⌝ }
+        (messageIn width (now (frame .entry)))) ⌝ }
 {
     let from = source(frame);
     let due = deadline(frame);
@@ -73,14 +76,14 @@ fn early_number<'a, 'b>(
 
 // The number of the last check of a message, 23, or 0. With a place free nobody asks whether it is ready.
 fn place_number<'a, 'b>(
-    time: u32,
+    time: u64,
     count: usize,
-    marks: &'a [u32; 64],
-    floor: u32,
+    marks: &'a [u64; 64],
+    floor: u64,
     frame: &'b [u8],
 ) -> u8
     requires { ⌜ Reads (now frame) ⌝ }
-    ensures { λ r. ⌜ r ≡ fullNumber count (isReady (asking (now (marks .entry)) time floor) (messageIn 4 (now (frame .entry)))) ⌝ }
+    ensures { λ r. ⌜ r ≡ fullNumber count (isReady (asking (now (marks .entry)) time floor) (messageIn width (now (frame .entry)))) ⌝ }
 {
     if count < 32 {
         return 0;
@@ -95,16 +98,16 @@ fn place_number<'a, 'b>(
 // The number of the first check that turns down a message that was read, or 0: 20, 21, 32, 22, 23.
 pub fn message_number<'a, 'b>(
     own: u8,
-    time: u32,
+    time: u64,
     count: usize,
-    marks: &'a [u32; 64],
+    marks: &'a [u64; 64],
     slots: &'a [u8],
-    floor: u32,
+    floor: u64,
     frame: &'b [u8],
 ) -> u8
     requires { ⌜ Reads (now frame) × Slots (now slots) × Kept (now slots) count ⌝ }
     ensures { λ r. ⌜ r ≡ firstOf (messageChecks (recordOf (parts own time 0 count (now (marks .entry)) [] (now (slots .entry)) floor))
-        (messageIn 4 (now (frame .entry)))) ⌝ }
+        (messageIn width (now (frame .entry)))) ⌝ }
 {
     let number = early_number(own, time, count, marks, slots, floor, frame);
     if number != 0 {
@@ -116,17 +119,17 @@ pub fn message_number<'a, 'b>(
 // The number of the first check that turns down a frame, or 0: 26, 10, 1 to 8, 20, 21, 32, 22, 23.
 pub fn receive_number<'a, 'b>(
     own: u8,
-    time: u32,
-    high: u32,
+    time: u64,
+    high: u64,
     count: usize,
-    marks: &'a [u32; 64],
-    barrier: &'a [u32; 64],
+    marks: &'a [u64; 64],
+    barrier: &'a [u64; 64],
     slots: &'a [u8],
-    floor: u32,
+    floor: u64,
     frame: &'b [u8],
     output: &'b [u8],
 ) -> u8
-    requires { ⌜ Slots (now slots) ⌝ }
+    requires { ⌜ Slots (now slots) × NotNarrow (now frame) ⌝ }
     ensures { λ r. ⌜ r ≡ firstOf (receiveChecks
         (recordOf (parts own time high count (now (marks .entry)) (now (barrier .entry)) (now (slots .entry)) floor))
         (now (frame .entry)) (now (output .entry))) ⌝ }

@@ -1,5 +1,8 @@
 // The choice: which waiting messages are ready, and which of them goes first. An internal crate.
 // Precondition: slots that hold readable frames; the calls of a panel refuse any other record.
+use frame::ENTRIES_AT;
+use frame::MASK_AT;
+use frame::WIDTH;
 use numbers::number_at;
 use slots::deadline;
 use slots::has_lapsed;
@@ -10,6 +13,7 @@ ghost use mathlib.Core.List.{[], _∷_};
 ghost use Prim.Native.Nat.{_<_};
 ghost use lib.ListN.{length, take};
 ghost use Rattle.frame.specs.Reading.{messageIn};
+ghost use Rattle.rules.specs.Sizes.{width};
 ghost use Rattle.rules.specs.Panel.{met};
 ghost use Rattle.rules.specs.Panel.{ready as isReady};
 ghost use Rattle.rules.specs.Settling.{choice as choiceIn};
@@ -28,12 +32,12 @@ pub struct Tested {
 pub struct First {
     pub found: bool,
     pub place: usize,
-    pub deadline: u32,
+    pub deadline: u64,
     pub source: u8,
 }
 
 // Whether an entry is met by its panel's mark, or has lapsed.
-fn is_met(entry: u32, mark: u32, time: u32, floor: u32) -> bool
+fn is_met(entry: u64, mark: u64, time: u64, floor: u64) -> bool
     ensures { λ r. ⌜ r ≡ met (asking (mark ∷ []) time floor) 0 entry ⌝ }
 {
     if entry <= mark {
@@ -44,16 +48,16 @@ fn is_met(entry: u32, mark: u32, time: u32, floor: u32) -> bool
 
 // Whether the message of a readable frame is ready: from set bit to set bit of its mask, lowest first,
 // up to the first entry that is not met.
-pub fn ready(frame: &[u8], marks: &[u32; 64], time: u32, floor: u32) -> Tested
+pub fn ready(frame: &[u8], marks: &[u64; 64], time: u64, floor: u64) -> Tested
     requires { ⌜ Reads (now frame) ⌝ }
-    ensures { λ r. ⌜ r .ready ≡ isReady (asking (now (marks .entry)) time floor) (messageIn 4 (now (frame .entry))) ⌝ }
-    ensures { λ r. ⌜ r .visited ≡ visits (asking (now (marks .entry)) time floor) (messageIn 4 (now (frame .entry))) ⌝ }
+    ensures { λ r. ⌜ r .ready ≡ isReady (asking (now (marks .entry)) time floor) (messageIn width (now (frame .entry))) ⌝ }
+    ensures { λ r. ⌜ r .visited ≡ visits (asking (now (marks .entry)) time floor) (messageIn width (now (frame .entry))) ⌝ }
 {
-    let mut bits = number_at(frame, 10, 8);
+    let mut bits = number_at(frame, MASK_AT, 8);
     let mut visited = 0;
     while bits != 0 {
         let panel = u64::trailing_zeros(bits) as usize;
-        let entry = number_at(frame, 18 + 4 * visited, 4) as u32;
+        let entry = number_at(frame, ENTRIES_AT + WIDTH * visited, WIDTH);
         let with_this = visited + 1;
         if !is_met(entry, marks[panel], time, floor) {
             return Tested {
@@ -71,7 +75,7 @@ pub fn ready(frame: &[u8], marks: &[u32; 64], time: u32, floor: u32) -> Tested
 }
 
 // Whether a message goes before the one found.
-fn goes_before(deadline: u32, source: u8, first: First) -> bool
+fn goes_before(deadline: u64, source: u8, first: First) -> bool
     ensures { λ r. ⌜ r ≡ goesBefore deadline source first ⌝ }
 {
     if deadline != first.deadline {
@@ -87,13 +91,13 @@ fn consider<'a, 'b>(
     place: usize,
     slot: usize,
     slots: &'a [u8],
-    marks: &'b [u32; 64],
-    time: u32,
-    floor: u32,
+    marks: &'b [u64; 64],
+    time: u64,
+    floor: u64,
 ) -> First
     requires { ⌜ Slots (now slots) × (slot < 32) × Reads (frameIn (now slots) slot) ⌝ }
-    ensures { λ r. ⌜ r ≡ considered (isReady (asking (now (marks .entry)) time floor) (messageIn 4 (frameIn (now (slots .entry)) slot)))
-        place (messageIn 4 (frameIn (now (slots .entry)) slot)) first ⌝ }
+    ensures { λ r. ⌜ r ≡ considered (isReady (asking (now (marks .entry)) time floor) (messageIn width (frameIn (now (slots .entry)) slot)))
+        place (messageIn width (frameIn (now (slots .entry)) slot)) first ⌝ }
 {
     let frame = kept_frame(slots, slot);
     if first.found {
@@ -117,9 +121,9 @@ fn consider<'a, 'b>(
 pub fn choice<'a, 'b, 'c>(
     waiting: usize,
     places: &'a [u8; 32],
-    marks: &'b [u32; 64],
-    time: u32,
-    floor: u32,
+    marks: &'b [u64; 64],
+    time: u64,
+    floor: u64,
     slots: &'c [u8],
 ) -> First
     requires { ⌜ Slots (now slots) × Listed (now slots) waiting (now places) × (length (now places) ≡ 32) ⌝ }

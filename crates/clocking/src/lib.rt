@@ -3,8 +3,10 @@
 // promises is document 01's clock, for every argument. An internal crate: `exports` and `by_value` have
 // the public calls.
 use parts::Answer;
+use parts::OUTPUT;
 use parts::broken;
 use parts::settle_slots;
+use slots::SLOTS;
 use slots::alive;
 ghost use mathlib.Core.Path.{_≡_};
 ghost use mathlib.Core.List.{[]};
@@ -14,13 +16,13 @@ ghost use Rattle.parts.specs.Record.{parts, PromisedInPlace};
 ghost use Rattle.clocking.specs.Checks.{clockChecksOn};
 
 // The number of the first check that turns down a clock reading, or 0: 26, 10, 25.
-fn clock_number(broken: bool, output: usize, reading: u32, time: u32) -> u8
+fn clock_number(broken: bool, output: usize, reading: u64, time: u64) -> u8
     ensures { λ r. ⌜ r ≡ firstOf (clockChecksOn broken output reading time) ⌝ }
 {
     if broken {
         return 26; // the record is broken
     }
-    if output < 1254 {
+    if output < OUTPUT {
         return 10; // the output is short
     }
     if reading < time {
@@ -32,14 +34,14 @@ fn clock_number(broken: bool, output: usize, reading: u32, time: u32) -> u8
 // The clock shows a time: the log records stand in the output.
 pub fn clock_in_place(
     own: u8,
-    time: &mut u32,
-    high: &mut u32,
+    time: &mut u64,
+    high: &mut u64,
     count: &mut usize,
-    marks: &mut [u32; 64],
-    barrier: &mut [u32; 64],
-    slots: &mut [u8; 9888],
-    floor: &mut u32,
-    reading: u32,
+    marks: &mut [u64; 64],
+    barrier: &mut [u64; 64],
+    slots: &mut [u8; SLOTS],
+    floor: &mut u64,
+    reading: u64,
     output: &mut [u8],
 ) -> Answer
     ensures { λ r. ⌜ PromisedInPlace

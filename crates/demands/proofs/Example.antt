@@ -11,7 +11,7 @@ use denote.Ref.{RefT}
 use Rattle.rules.specs.Panel.{Name, oldMake, none64, fresh, ofMake}
 use Rattle.rules.specs.Panel.{Panel as Record}
 use Rattle.rules.specs.Results.{send, receive, defined}
-use Rattle.rules.specs.Cases.{of, output, buffer, outputWith, logged, frameFrom}
+use Rattle.rules.specs.Cases.{of, output, buffer, outputWith, logged, frameFrom, zeros4}
 use Rattle.rules.specs.BenchCases.{deadline1, frame1, logged1, deadline2, frame2, logged2}
 use Rattle.rules.specs.Lists.{Made, recordAt, framesSent, namesIn, logAt, sends, Given, Lawful}
 use Rattle.rules.proofs.BenchCases.{callsOpened}
@@ -149,7 +149,7 @@ oldSent =
 
 -- its deadline is high + 1, and it names the note
 answerFrame : List ℕ
-answerFrame = frameFrom (0x01 ∷ 0x00 ∷ 0x00 ∷ 0x1c ∷ 0x85 ∷ replicate 7 0x00) (0x08 ∷ 0x00 ∷ 0x00 ∷ 0x1c ∷ 0x84 ∷ 0x00 ∷ [])
+answerFrame = frameFrom (0x01 ∷ zeros4 (0x00 ∷ 0x00 ∷ 0x1c ∷ 0x85 ∷ replicate 7 0x00)) (0x08 ∷ zeros4 (0x00 ∷ 0x00 ∷ 0x1c ∷ 0x84 ∷ 0x00 ∷ []))
 
 abbrev pub answer : Name
 answer = record { source = 1; deadline = deadline2 }
@@ -163,7 +163,7 @@ answered = (
     (some, (some, (some, (some, (some, (some, (some, (some, tt)))))))),
     (0, (0, (lent deadline1, (lent 0, (lent (only3 deadline1), (lent (only3 deadline1), (lent zeros, (lent 0, (lent answerFrame, (lent output, tt)))))))))),
     record { count = 1; length = 0; number = 0 },
-    (0, (0, (lent deadline2, (lent 0, (lent (of ((1, deadline2) ∷ (3, deadline1) ∷ [])), (lent (of ((1, deadline2) ∷ [])), (lent zeros, (lent 0, (lent answerFrame, (lent (outputWith (logged (1 ∷ 0x00 ∷ 0x00 ∷ 0x1c ∷ 0x85 ∷ 0 ∷ []) ∷ [])), tt)))))))))),
+    (0, (0, (lent deadline2, (lent 0, (lent (of ((1, deadline2) ∷ (3, deadline1) ∷ [])), (lent (of ((1, deadline2) ∷ [])), (lent zeros, (lent 0, (lent answerFrame, (lent (outputWith (logged (1 ∷ zeros4 (0x00 ∷ 0x00 ∷ 0x1c ∷ 0x85 ∷ 0 ∷ [])) ∷ [])), tt)))))))))),
     (refl, λ refused. absurd (refused refl)),
     refl,
   ),

@@ -5,6 +5,7 @@ use clocking::clock_in_place;
 use parts::Answer;
 use receiving::receive_in_place;
 use sending::send_in_place;
+use slots::SLOTS;
 ghost use mathlib.Core.List.{[]};
 ghost use Rattle.rules.specs.Results.{send, receive, clock};
 ghost use Rattle.parts.specs.Record.{parts, PromisedInPlace};
@@ -15,13 +16,13 @@ ghost use Rattle.exports.specs.Fresh.{FreshInPlace};
 pub extern "C" fn panel_fresh_parts(
     number: u8,
     own: &mut u8,
-    time: &mut u32,
-    high: &mut u32,
+    time: &mut u64,
+    high: &mut u64,
     count: &mut usize,
-    marks: &mut [u32; 64],
-    barrier: &mut [u32; 64],
-    slots: &mut [u8; 9888],
-    floor: &mut u32,
+    marks: &mut [u64; 64],
+    barrier: &mut [u64; 64],
+    slots: &mut [u8; SLOTS],
+    floor: &mut u64,
 ) -> u8
     ensures { λ r. ⌜ FreshInPlace number r
         (parts (now (own .exit)) (now (time .exit)) (now (high .exit)) (now (count .exit)) (now (marks .exit)) (now (barrier .exit)) (now (slots .exit)) (now (floor .exit))) ⌝ }
@@ -29,9 +30,9 @@ pub extern "C" fn panel_fresh_parts(
     *time = 0;
     *high = 0;
     *count = 0;
-    *marks = [0u32; 64];
-    *barrier = [0u32; 64];
-    *slots = [0u8; 9888];
+    *marks = [0u64; 64];
+    *barrier = [0u64; 64];
+    *slots = [0u8; SLOTS];
     *floor = 0;
     if 63 < number {
         *own = 0;
@@ -45,13 +46,13 @@ pub extern "C" fn panel_fresh_parts(
 #[no_mangle]
 pub extern "C" fn panel_send_parts(
     own: u8,
-    time: u32,
-    high: &mut u32,
+    time: u64,
+    high: &mut u64,
     count: &mut usize,
-    marks: &mut [u32; 64],
-    barrier: &mut [u32; 64],
-    slots: &mut [u8; 9888],
-    floor: &mut u32,
+    marks: &mut [u64; 64],
+    barrier: &mut [u64; 64],
+    slots: &mut [u8; SLOTS],
+    floor: &mut u64,
     payload: &[u8],
     lifetime: u16,
     output: &mut [u8],
@@ -83,13 +84,13 @@ pub extern "C" fn panel_send_parts(
 #[no_mangle]
 pub extern "C" fn panel_receive_parts(
     own: u8,
-    time: u32,
-    high: &mut u32,
+    time: u64,
+    high: &mut u64,
     count: &mut usize,
-    marks: &mut [u32; 64],
-    barrier: &mut [u32; 64],
-    slots: &mut [u8; 9888],
-    floor: &mut u32,
+    marks: &mut [u64; 64],
+    barrier: &mut [u64; 64],
+    slots: &mut [u8; SLOTS],
+    floor: &mut u64,
     frame: &[u8],
     output: &mut [u8],
 ) -> Answer
@@ -117,14 +118,14 @@ pub extern "C" fn panel_receive_parts(
 #[no_mangle]
 pub extern "C" fn panel_clock_parts(
     own: u8,
-    time: &mut u32,
-    high: &mut u32,
+    time: &mut u64,
+    high: &mut u64,
     count: &mut usize,
-    marks: &mut [u32; 64],
-    barrier: &mut [u32; 64],
-    slots: &mut [u8; 9888],
-    floor: &mut u32,
-    reading: u32,
+    marks: &mut [u64; 64],
+    barrier: &mut [u64; 64],
+    slots: &mut [u8; SLOTS],
+    floor: &mut u64,
+    reading: u64,
     output: &mut [u8],
 ) -> Answer
     ensures { λ r. ⌜ PromisedInPlace

@@ -9,7 +9,7 @@ use mathlib.Core.List.{List, [], _∷_, _++_}
 use lib.Dec.{eqb}
 use borrow.Author.Tests.{eqb-true, eq-eqb}
 use Rattle.frame.specs.Refusal.{firstOf}
-use Rattle.frame.specs.Reading.{messageIn}
+use Rattle.frame.specs.Reading.{messageFrom}
 use Rattle.frame.proofs.Conjunction.{and-both}
 use Rattle.rules.specs.Sizes.{width}
 use Rattle.rules.specs.Panel.{Name, Panel, ready}
@@ -42,7 +42,7 @@ effect-floor : (p : Panel) (call : Call) → p .floor ≤ effectOf p call .panel
 unfolding sending receiving clocking settingBack handAndSettle hand
 effect-floor p (send payload lifetime output buffer) = omega (arith, settle-floor (hand (emptied p) (newMessage p payload lifetime)))
 effect-floor p (receive bytes output) =
-    let m = messageIn width bytes in
+    let m = messageFrom bytes in
     cond-both (λ (s : Settled). p .floor ≤ s .panel .floor) (ready p m) (λ _. omega (arith, settle-floor (hand p m)))
     (λ _. settle-floor (withWaiting p (p .waiting ++ (m ∷ []))))
 effect-floor p (clock time output) = settle-floor (dropLapsed (withTime p time))

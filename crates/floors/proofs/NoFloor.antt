@@ -8,7 +8,7 @@ use lib.ListN.{length}
 use Rattle.numbers.specs.Buffer.{over}
 use Rattle.frame.specs.Message.{Message}
 use Rattle.frame.specs.Refusal.{firstOf}
-use Rattle.frame.specs.Reading.{messageIn}
+use Rattle.frame.specs.Reading.{messageFrom}
 use Rattle.rules.specs.Sizes.{width}
 use Rattle.rules.specs.Panel.{Panel, ready}
 use Rattle.rules.specs.Handing.{logRecords}
@@ -48,13 +48,13 @@ module _ (p : Panel) (floor : ℕ) (I : BothIdle p floor) where
   checks-same : (call : Call) → checksOf (withFloor floor p) call ≡ checksOf p call
   unfolding sendChecks receiveChecks clockChecks setBackChecks messageChecks sendDeadline broken tooFarAhead
   checks-same (send payload lifetime output buffer) = refl
-  checks-same (receive bytes output) = rw (lapsed-same p floor I (messageIn width bytes .deadline), ready-same p floor I (messageIn width bytes))
+  checks-same (receive bytes output) = rw (lapsed-same p floor I (messageFrom bytes .deadline), ready-same p floor I (messageFrom bytes))
   checks-same (clock time output) = refl
   checks-same (setBack reading) = refl
 
   effect-alike : (call : Call) → isSetBack call ≡ false → firstOf (checksOf p call) ≡ 0 → SettledAlike (effectOf p call) (effectOf (withFloor floor p) call)
   effect-alike (send payload lifetime output buffer) other e = sending-alike payload lifetime
-  effect-alike (receive bytes output) other e = receiving-alike (messageIn width bytes)
+  effect-alike (receive bytes output) other e = receiving-alike (messageFrom bytes)
   effect-alike (clock time output) other e = clocking-alike time (clock-passed p time output e .later)
   effect-alike (setBack reading) other e = absurd (true≢false other)
 

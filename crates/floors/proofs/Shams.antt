@@ -10,13 +10,13 @@ use Rattle.rules.specs.Results.{Call, send, receive, clock, setBack, Result, de
 use Rattle.rules.specs.Lists.{Made, logAt, timeAt, direct, Lawful, ran}
 use Rattle.rules.specs.Lapsing.{floorAt, takenAt}
 use Rattle.rules.specs.Demand3.{NoneAhead}
-use Rattle.rules.specs.Cases.{withFloor, output, buffer, frameFrom}
+use Rattle.rules.specs.Cases.{withFloor, output, buffer, frameFrom, zeros4}
 use Rattle.rules.specs.BenchCases.{deadline1, frame1, deadline2}
 use Rattle.rules.proofs.Shams.{hold, listsOpened, payload-bytes, empty-bytes}
 
 -- the lifting: its deadline is high + 1, and it names the hold
 liftedFrame : List ℕ
-liftedFrame = frameFrom (0x01 ∷ 0x00 ∷ 0x00 ∷ 0x1c ∷ 0x85 ∷ replicate 7 0x00) (0x08 ∷ 0x00 ∷ 0x00 ∷ 0x1c ∷ 0x84 ∷ 0x00 ∷ [])
+liftedFrame = frameFrom (0x01 ∷ zeros4 (0x00 ∷ 0x00 ∷ 0x1c ∷ 0x85 ∷ replicate 7 0x00)) (0x08 ∷ zeros4 (0x00 ∷ 0x00 ∷ 0x1c ∷ 0x84 ∷ 0x00 ∷ []))
 
 abbrev pub lifting : Name
 lifting = record { source = 1; deadline = deadline2 }

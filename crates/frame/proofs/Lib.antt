@@ -5,6 +5,7 @@ pub mod EachNumber
 pub mod Entries
 pub mod Panels
 pub mod Readable
+pub mod Widths
 pub mod Passed
 pub mod Places
 pub mod Theorems

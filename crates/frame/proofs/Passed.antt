@@ -15,7 +15,7 @@ use Rattle.frame.specs.Message.{Message, maskOf, present}
 use Rattle.frame.specs.Frame.{mark, versionOf, fields, frame}
 use Rattle.frame.specs.Refusal.{firstOf}
 use Rattle.frame.specs.Reading.{markIn, versionIn, sourceIn, deadlineIn, maskIn, countIn, entriesIn, lengthIn, payloadPlace, eachEarlier, checks, refusal, message, refused, messageIn, readAs, reading}
-use Rattle.frame.specs.Answer.{payloadOf, startOf}
+use Rattle.frame.specs.Answer.{fieldsOf, payloadOf, startOf}
 use Rattle.frame.proofs.EachNumber.{eachEarlier-pos, eachEarlier-lt}
 use Rattle.frame.proofs.Entries.{length-byPanel, present-byPanel, byPanel-lt}
 use Rattle.frame.proofs.Readable.{Readable}
@@ -39,6 +39,7 @@ passed-zero width bs p =
       le-ltb _ _ (p .long),
       eq-eqb _ _ (p .mark),
       eq-eqb _ _ (p .version),
+      le-ltb (length bs) (15 + width) (omega (arith, p .room)),
       le-ltb _ _ (p .source),
       ne-eqb _ _ (p .deadline),
       le-ltb _ _ (p .room),
@@ -56,12 +57,12 @@ zero-passed width bs e =
       long = ltb-false _ _ (passes 0);
       mark = eqb-true _ _ (not-false _ (passes 1));
       version = eqb-true _ _ (not-false _ (passes 2));
-      source = ltb-false _ _ (passes 3);
-      deadline = eqb-false _ _ (passes 4);
-      room = ltb-false _ _ (passes 5);
-      entries = not-false _ (passes 6);
-      payload = ltb-false _ _ (passes 7);
-      whole = le-antisymm (ltb-false _ _ (passes 8)) (ltb-false _ _ (passes 9));
+      source = ltb-false _ _ (passes 4);
+      deadline = eqb-false _ _ (passes 5);
+      room = ltb-false _ _ (passes 6);
+      entries = not-false _ (passes 7);
+      payload = ltb-false _ _ (passes 8);
+      whole = le-antisymm (ltb-false _ _ (passes 9)) (ltb-false _ _ (passes 10));
     }
 
 -- ---- the reading, by its refusal number
@@ -86,6 +87,15 @@ pub reading-message : (width : ℕ) (bs : List ℕ) (m : Message) → reading wi
 unfolding reading
 reading-message width bs m e =
     let r = readAs-message (refusal width bs) (messageIn width bs) m e in (zero-passed width bs (r .0), r .1)
+
+-- the fields have the number of the refusal
+fieldsOf-readAs : (n : ℕ) (m : Message) → fieldsOf (readAs n m) .refusal ≡ n
+fieldsOf-readAs zero m = refl
+fieldsOf-readAs (suc n) m = refl
+
+pub fieldsOf-refusal : (width : ℕ) (bs : List ℕ) → fieldsOf (reading width bs) .refusal ≡ refusal width bs
+unfolding reading
+fieldsOf-refusal width bs = fieldsOf-readAs (refusal width bs) (messageIn width bs)
 
 -- ---- the payload of bytes that pass
 
@@ -112,9 +122,12 @@ module _ (width : ℕ) (bs : List ℕ) (p : Passed width bs) (fits : maskIn widt
       (sym (length-numbersAt bs (14 + width) width (countIn width bs)))
       (eachEarlier-pos _ _ (p .entries))
 
-  -- the mask of bytes that pass is that of their message's entries
+  -- the mask of bytes that pass is that of their message's entries, and their entries are those that are there
   pub maskOf-passed : maskOf (messageIn width bs .entries) ≡ maskIn width bs
   maskOf-passed = apart .1
+
+  pub present-passed : present (messageIn width bs .entries) ≡ entriesIn width bs
+  present-passed = apart .0
 
 -- ---- bytes that pass are the frame of their message
 

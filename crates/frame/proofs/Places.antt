@@ -74,7 +74,7 @@ module _ (width : ℕ) (m : Message) where
   unfolding frame fields flatten
   mark-place = numberAt-field (fields width m) 0 0 refl 3 mark refl (omega arith)
 
-  version-place : Width width → versionIn (frame width m) ≡ versionOf width
+  pub version-place : Width width → versionIn (frame width m) ≡ versionOf width
   unfolding frame fields flatten
   version-place w = numberAt-field (fields width m) 1 3 (simp (length-append, length-bigEndian)) 2 (versionOf width) refl (omega arith)
 

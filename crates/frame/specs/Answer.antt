@@ -6,7 +6,7 @@ use lib.ListN.{length, replicate}
 use denote.Ref.{RefT, now}
 use Rattle.frame.specs.declared.Fields.{Fields}
 use Rattle.frame.specs.Message.{maskOf}
-use Rattle.frame.specs.Reading.{Reading, message, refused, reading}
+use Rattle.frame.specs.Reading.{Reading, message, refused, readingOf}
 
 -- the fields; for bytes turned down the number, and every other field 0
 abbrev pub fieldsOf : Reading → Fields
@@ -32,7 +32,7 @@ startOf bs (message m) = length bs - length (m .payload)
 startOf bs (refused n) = 0
 
 -- the payload as the part of the caller's bytes that it occupies: what it holds, in which memory block, and from which place on
-pub record PayloadPart (width : ℕ) (frame part : RefT (List ℕ)) : Type 0 where
-  pub bytes : now part ≡ payloadOf (reading width (now frame))
+pub record PayloadPart (frame part : RefT (List ℕ)) : Type 0 where
+  pub bytes : now part ≡ payloadOf (readingOf (now frame))
   pub block : part .ptr .0 ≡ frame .ptr .0
-  pub place : part .ptr .1 ≡ startOf (now frame) (reading width (now frame)) + frame .ptr .1
+  pub place : part .ptr .1 ≡ startOf (now frame) (readingOf (now frame)) + frame .ptr .1

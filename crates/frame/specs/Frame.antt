@@ -1,5 +1,6 @@
--- Document 01, "The frame": the bytes of a message's frame. The width is that of a deadline and of an entry in bytes: 4 in version 1.
-use Prim.Native.Nat.{ℕ, _/_, _≤_, _<_}
+-- Document 01, "The frame": the bytes of a message's frame. The width is that of a deadline and of an entry in bytes: 4 in version 1, 8 in version 2.
+use Prim.Native.Nat.{ℕ, _+_, _*_, _/_, _%_, _≤_}
+use mathlib.Core.Path.{_≡_}
 use mathlib.Core.List.{List, [], _∷_, flatten}
 use lib.ListN.{length}
 use Rattle.numbers.specs.Numbers.{bigEndian, bigEndians}
@@ -9,13 +10,20 @@ use Rattle.frame.specs.Message.{Message, maskOf, present}
 abbrev pub mark : ℕ
 mark = 0x445259
 
+-- the width of version 1, and that of version 2, in which frames are written
+abbrev pub narrow : ℕ
+narrow = 4
+
+abbrev pub wide : ℕ
+wide = 8
+
 -- the version whose deadlines have that width
 abbrev pub versionOf : ℕ → ℕ
 versionOf width = width / 4
 
--- a width that frames can have: at least 4 bytes, and its version within 16 bits
+-- a width that frames can have: 4 or 8 bytes
 abbrev pub Width : ℕ → Type 0
-Width width = (4 ≤ width) × (versionOf width < 65536)
+Width width = (narrow ≤ width) × (width ≤ wide) × (width % 4 ≡ 0)
 
 -- the fields, in order
 unfoldable pub fields : ℕ → Message → List (List ℕ)
@@ -33,3 +41,7 @@ fields width m =
 -- the frame: its fields one after another
 unfoldable pub frame : ℕ → Message → List ℕ
 frame width m = flatten (fields width m)
+
+-- the length of the longest frame, with 64 entries and 32 bytes of payload: 307 bytes in version 1, 567 in version 2
+abbrev pub longest : ℕ → ℕ
+longest width = 15 + width + width * 64 + 32

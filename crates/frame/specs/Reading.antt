@@ -1,13 +1,13 @@
 -- Document 01, "The frame": what bytes read as. (`ltb`, `leb` and `eqb` are the library's tests for <, ≤ and ≡.)
 use Prim.Native.Nat.{ℕ, zero, suc, _+_, _*_}
-use mathlib.Core.Bool.{Bool, true, not, _&&_}
+use mathlib.Core.Bool.{Bool, true, cond, not, _&&_}
 use mathlib.Core.List.{List, [], _∷_}
 use lib.ListN.{length, drop}
 use lib.Dec.{ltb, eqb}
 use lib.Count.{onesIn}
 use Rattle.numbers.specs.Numbers.{numberAt, numbersAt}
 use Rattle.frame.specs.Message.{Message, byPanel}
-use Rattle.frame.specs.Frame.{mark, versionOf}
+use Rattle.frame.specs.Frame.{mark, narrow, wide, versionOf}
 use Rattle.frame.specs.Refusal.{firstOf}
 
 -- ---- the fields, each at its place in the bytes
@@ -17,6 +17,10 @@ markIn bs = numberAt bs 0 3
 
 abbrev pub versionIn : List ℕ → ℕ
 versionIn bs = numberAt bs 3 2
+
+-- the width that the version picks: 8 in version 2, and 4 in any other, which is turned down unless it is 1
+abbrev pub widthIn : List ℕ → ℕ
+widthIn bs = cond (eqb (versionIn bs) (versionOf wide)) wide narrow
 
 abbrev pub sourceIn : List ℕ → ℕ
 sourceIn bs = numberAt bs 5 1
@@ -48,12 +52,13 @@ unfoldable pub eachEarlier : ℕ → List ℕ → Bool
 eachEarlier deadline [] = true
 eachEarlier deadline (e ∷ es) = ltb 0 e && ltb e deadline && eachEarlier deadline es
 
--- the checks of a reading, in order, each with its number
+-- the checks of a reading in the version of a width, in order, each with its number
 unfoldable pub checks : ℕ → List ℕ → List (Bool × ℕ)
 checks width bs =
     (ltb (length bs) 19, 1)  -- fewer than 19 bytes
     ∷ (not (eqb (markIn bs) mark), 2)  -- mark
     ∷ (not (eqb (versionIn bs) (versionOf width)), 3)  -- version
+    ∷ (ltb (length bs) (15 + width), 1)  -- fewer bytes than a frame of that version has
     ∷ (ltb 63 (sourceIn bs), 4)  -- source
     ∷ (eqb (deadlineIn width bs) 0, 5)  -- deadline 0
     ∷ (ltb (length bs) (payloadPlace width bs), 1)  -- too few bytes for the entries and the length byte
@@ -89,3 +94,14 @@ readAs (suc n) m = refused (suc n)
 
 unfoldable pub reading : ℕ → List ℕ → Reading
 reading width bs = readAs (refusal width bs) (messageIn width bs)
+
+-- ---- bytes of either version
+
+abbrev pub refusalOf : List ℕ → ℕ
+refusalOf bs = refusal (widthIn bs) bs
+
+abbrev pub messageFrom : List ℕ → Message
+messageFrom bs = messageIn (widthIn bs) bs
+
+abbrev pub readingOf : List ℕ → Reading
+readingOf bs = reading (widthIn bs) bs

@@ -25,21 +25,21 @@ length-readable bs r =
     length-logRecord (messageIn width bs) (omega (arith, p .payload, length-payload width bs p))
 
 -- what stands behind n entries and the length byte is the payload
-pub part-payload : (bs : List ℕ) (n : ℕ) → n ≡ countIn 4 bs → take (length bs - (19 + 4 * n)) (drop (19 + 4 * n) bs) ≡ messageIn 4 bs .payload
+pub part-payload : (bs : List ℕ) (n : ℕ) → n ≡ countIn width bs → take (length bs - (15 + width + width * n)) (drop (15 + width + width * n) bs) ≡ messageIn width bs .payload
 unfolding messageIn
 part-payload bs n e =
-    take-all (length bs - (19 + 4 * n)) (drop (19 + 4 * n) bs) (rw length-drop (omega arith))
-    ∙ ap (λ (count : ℕ). drop (19 + 4 * count) bs) e
+    take-all (length bs - (15 + width + width * n)) (drop (15 + width + width * n) bs) (rw length-drop (omega arith))
+    ∙ ap (λ (count : ℕ). drop (15 + width + width * count) bs) e
 
 abbrev head : ℕ → ℕ → ℕ → List ℕ
-head source deadline size = bigEndian 1 source ++ bigEndian 4 deadline ++ bigEndian 1 size
+head source deadline size = bigEndian 1 source ++ bigEndian width deadline ++ bigEndian 1 size
 
 over-head : (buffer : List ℕ) (source deadline size : ℕ)
-    → over (over (over buffer 0 (bigEndian 1 source)) 1 (bigEndian 4 deadline)) 5 (bigEndian 1 size) ≡ over buffer 0 (head source deadline size)
+    → over (over (over buffer 0 (bigEndian 1 source)) 1 (bigEndian width deadline)) (1 + width) (bigEndian 1 size) ≡ over buffer 0 (head source deadline size)
 over-head buffer source deadline size =
-    ap (λ (l : List ℕ). over l 5 (bigEndian 1 size))
-    (over-over buffer 0 (bigEndian 1 source) 1 (bigEndian 4 deadline) (simp length-bigEndian) (omega arith))
-    ∙ over-over buffer 0 (bigEndian 1 source ++ bigEndian 4 deadline) 5 (bigEndian 1 size) (simp (length-append, length-bigEndian)) (omega arith)
+    ap (λ (l : List ℕ). over l (1 + width) (bigEndian 1 size))
+    (over-over buffer 0 (bigEndian 1 source) 1 (bigEndian width deadline) (simp length-bigEndian) (omega arith))
+    ∙ over-over buffer 0 (bigEndian 1 source ++ bigEndian width deadline) (1 + width) (bigEndian 1 size) (simp (length-append, length-bigEndian)) (omega arith)
 
 abbrev zeros : ℕ → List ℕ
 zeros n = replicate n 0
@@ -50,29 +50,29 @@ zeros-split n size le =
     sym (replicate-append-replicate size (n - size) 0 ∙ ap zeros all)
 
 -- the payload goes over zeros
-over-logRecord : (buffer : List ℕ) (m : Message) (size : ℕ) → size ≡ length (m .payload) → size ≤ 32 → 38 ≤ length buffer
+over-logRecord : (buffer : List ℕ) (m : Message) (size : ℕ) → size ≡ length (m .payload) → size ≤ 32 → logRecordLength ≤ length buffer
     → over
-    (over (over (over (over buffer 0 (bigEndian 1 (m .source))) 1 (bigEndian 4 (m .deadline))) 5 (bigEndian 1 size)) 6 (replicate 32 0))
-    6
+    (over (over (over (over buffer 0 (bigEndian 1 (m .source))) 1 (bigEndian width (m .deadline))) (1 + width) (bigEndian 1 size)) (2 + width) (replicate 32 0))
+    (2 + width)
     (m .payload)
     ≡ over buffer 0 (logRecord m)
 unfolding logRecord
 over-logRecord buffer m size e few room =
     let front = head (m .source) (m .deadline) size in
-    let six : length (head (m .source) (m .deadline) size) ≡ 6 = simp (length-append, length-bigEndian) in
+    let six : length (head (m .source) (m .deadline) size) ≡ 2 + width = simp (length-append, length-bigEndian) in
     let headed = over buffer 0 front in
     let long : length (over buffer 0 (head (m .source) (m .deadline) size)) ≡ length buffer = length-over buffer 0 front (omega arith) in
-    ap (λ (l : List ℕ). over (over l 6 (zeros 32)) 6 (m .payload)) (over-head buffer (m .source) (m .deadline) size)
-    ∙ ap (λ (l : List ℕ). over (over headed 6 l) 6 (m .payload)) (zeros-split 32 size few)
-    ∙ over-again headed 6 (zeros size) (zeros (32 - size)) (m .payload) (sym e ∙ sym (length-replicate size 0)) (omega arith)
-    ∙ over-over buffer 0 front 6 (m .payload ++ zeros (32 - size)) (omega arith) (omega arith)
+    ap (λ (l : List ℕ). over (over l (2 + width) (zeros 32)) (2 + width) (m .payload)) (over-head buffer (m .source) (m .deadline) size)
+    ∙ ap (λ (l : List ℕ). over (over headed (2 + width) l) (2 + width) (m .payload)) (zeros-split 32 size few)
+    ∙ over-again headed (2 + width) (zeros size) (zeros (32 - size)) (m .payload) (sym e ∙ sym (length-replicate size 0)) (omega arith)
+    ∙ over-over buffer 0 front (2 + width) (m .payload ++ zeros (32 - size)) (omega arith) (omega arith)
     ∙ ap (over buffer 0) (sym (append-assoc front (m .payload) (zeros (32 - size))))
     ∙ ap (λ (n : ℕ). over buffer 0 (head (m .source) (m .deadline) n ++ m .payload ++ zeros (32 - n))) e
 
 -- a buffer into which each field was put, one after the other
 pub put-logRecord : (buffer : List ℕ) (m : Message) {source deadline size : ℕ} {payload first second third fourth last : List ℕ}
-    → source ≡ m .source → deadline ≡ m .deadline → size ≡ length (m .payload) → payload ≡ m .payload → size ≤ 32 → 38 ≤ length buffer
-    → first ≡ over buffer 0 (bigEndian 1 source) → second ≡ over first 1 (bigEndian 4 deadline) → third ≡ over second 5 (bigEndian 1 size)
-    → fourth ≡ over third 6 (replicate 32 0) → last ≡ over fourth 6 payload → last ≡ over buffer 0 (logRecord m)
+    → source ≡ m .source → deadline ≡ m .deadline → size ≡ length (m .payload) → payload ≡ m .payload → size ≤ 32 → logRecordLength ≤ length buffer
+    → first ≡ over buffer 0 (bigEndian 1 source) → second ≡ over first 1 (bigEndian width deadline) → third ≡ over second (1 + width) (bigEndian 1 size)
+    → fourth ≡ over third (2 + width) (replicate 32 0) → last ≡ over fourth (2 + width) payload → last ≡ over buffer 0 (logRecord m)
 put-logRecord buffer m {size = size} s d e p few room e₁ e₂ e₃ e₄ e₅ =
     rw (e₅, e₄, e₃, e₂, e₁, s, d, p) (over-logRecord buffer m size e few room)

@@ -2,6 +2,13 @@
 // rises to the largest entry that was missed; the log record goes behind those before it, and high, the
 // source's mark and barrier entry become at least the deadline. An internal crate.
 // Preconditions: readable frames, and room in the output; the calls of a panel refuse anything else.
+use frame::MASK_AT;
+use frame::SHORTEST;
+use frame::WIDTH;
+use log_records::DEADLINE_AT;
+use log_records::LENGTH_AT;
+use log_records::LOG_RECORD;
+use log_records::PAYLOAD_AT;
 use numbers::number_at;
 use numbers::put_bytes;
 use numbers::put_number;
@@ -13,6 +20,7 @@ ghost use Prim.Native.Nat.{_+_, _*_, _≤_, max};
 ghost use lib.ListN.{length, getD, replicate};
 ghost use Rattle.numbers.specs.Buffer.{over};
 ghost use Rattle.frame.specs.Reading.{messageIn};
+ghost use Rattle.rules.specs.Sizes.{width, logRecordLength};
 ghost use Rattle.rules.specs.Handing.{raise, shortened, missed, logRecord};
 ghost use Rattle.slots.specs.Slots.{Reads};
 
@@ -30,20 +38,20 @@ fn put_zeros(buffer: &mut [u8], at: usize, count: usize)
 
 // Puts the log record of a readable frame's message at the start of a part of the output.
 fn put_log_record(part: &mut [u8], frame: &[u8])
-    requires { ⌜ (38 ≤ length (now part)) × Reads (now frame) ⌝ }
-    ensures { λ _. ⌜ now (part .exit) ≡ over (now (part .entry)) 0 (logRecord (messageIn 4 (now (frame .entry)))) ⌝ }
+    requires { ⌜ (logRecordLength ≤ length (now part)) × Reads (now frame) ⌝ }
+    ensures { λ _. ⌜ now (part .exit) ≡ over (now (part .entry)) 0 (logRecord (messageIn width (now (frame .entry)))) ⌝ }
 {
-    let start = 19 + 4 * (u64::count_ones(number_at(frame, 10, 8)) as usize);
+    let start = SHORTEST + WIDTH * (u64::count_ones(number_at(frame, MASK_AT, 8)) as usize);
     let length = frame.len() - start;
     put_number(part, 0, 1, source(frame) as u64);
-    put_number(part, 1, 4, deadline(frame) as u64);
-    put_number(part, 5, 1, length as u64);
-    put_zeros(part, 6, 32);
-    put_bytes(part, 6, &frame[start..]);
+    put_number(part, DEADLINE_AT, WIDTH, deadline(frame));
+    put_number(part, LENGTH_AT, 1, length as u64);
+    put_zeros(part, PAYLOAD_AT, 32);
+    put_bytes(part, PAYLOAD_AT, &frame[start..]);
 }
 
 // The larger of two numbers.
-fn larger(a: u32, b: u32) -> u32
+fn larger(a: u64, b: u64) -> u64
     ensures { λ r. ⌜ r ≡ max a b ⌝ }
 {
     if b < a {
@@ -56,20 +64,20 @@ fn larger(a: u32, b: u32) -> u32
 // least its deadline, and answers the record's new high. Its log record stands behind those of the
 // messages handed before it.
 fn put_in_log(
-    high: u32,
+    high: u64,
     handed: usize,
-    marks: &mut [u32; 64],
-    barrier: &mut [u32; 64],
+    marks: &mut [u64; 64],
+    barrier: &mut [u64; 64],
     frame: &[u8],
     output: &mut [u8],
-) -> u32
-    requires { ⌜ Reads (now frame) × (handed * 38 + 38 ≤ length (now output)) ⌝ }
-    ensures { λ r. ⌜ (r ≡ max high (messageIn 4 (now (frame .entry)) .deadline))
-        × (now (marks .exit) ≡ raise (now (marks .entry)) (messageIn 4 (now (frame .entry))))
-        × (now (barrier .exit) ≡ raise (now (barrier .entry)) (messageIn 4 (now (frame .entry))))
-        × (now (output .exit) ≡ over (now (output .entry)) (handed * 38) (logRecord (messageIn 4 (now (frame .entry))))) ⌝ }
+) -> u64
+    requires { ⌜ Reads (now frame) × (handed * logRecordLength + logRecordLength ≤ length (now output)) ⌝ }
+    ensures { λ r. ⌜ (r ≡ max high (messageIn width (now (frame .entry)) .deadline))
+        × (now (marks .exit) ≡ raise (now (marks .entry)) (messageIn width (now (frame .entry))))
+        × (now (barrier .exit) ≡ raise (now (barrier .entry)) (messageIn width (now (frame .entry))))
+        × (now (output .exit) ≡ over (now (output .entry)) (handed * logRecordLength) (logRecord (messageIn width (now (frame .entry))))) ⌝ }
 {
-    let at = handed * 38;
+    let at = handed * LOG_RECORD;
     put_log_record(&mut output[at..], frame);
     let deadline = deadline(frame);
     let source = source(frame) as usize;
@@ -81,22 +89,22 @@ fn put_in_log(
 // Hands the message of a readable frame, and answers the record's new high: its entries are passed,
 // beside the marks and the barrier as they are, and then it is put into the log.
 pub fn hand(
-    time: u32,
-    high: u32,
+    time: u64,
+    high: u64,
     handed: usize,
-    floor: &mut u32,
-    marks: &mut [u32; 64],
-    barrier: &mut [u32; 64],
+    floor: &mut u64,
+    marks: &mut [u64; 64],
+    barrier: &mut [u64; 64],
     frame: &[u8],
     output: &mut [u8],
-) -> u32
-    requires { ⌜ Reads (now frame) × (handed * 38 + 38 ≤ length (now output)) ⌝ }
-    ensures { λ r. ⌜ (r ≡ max high (messageIn 4 (now (frame .entry)) .deadline))
-        × (now (marks .exit) ≡ raise (now (marks .entry)) (messageIn 4 (now (frame .entry))))
-        × (now (barrier .exit) ≡ raise (shortened (now (barrier .entry)) (messageIn 4 (now (frame .entry)) .entries)) (messageIn 4 (now (frame .entry))))
-        × (now (output .exit) ≡ over (now (output .entry)) (handed * 38) (logRecord (messageIn 4 (now (frame .entry)))))
+) -> u64
+    requires { ⌜ Reads (now frame) × (handed * logRecordLength + logRecordLength ≤ length (now output)) ⌝ }
+    ensures { λ r. ⌜ (r ≡ max high (messageIn width (now (frame .entry)) .deadline))
+        × (now (marks .exit) ≡ raise (now (marks .entry)) (messageIn width (now (frame .entry))))
+        × (now (barrier .exit) ≡ raise (shortened (now (barrier .entry)) (messageIn width (now (frame .entry)) .entries)) (messageIn width (now (frame .entry))))
+        × (now (output .exit) ≡ over (now (output .entry)) (handed * logRecordLength) (logRecord (messageIn width (now (frame .entry)))))
         × (now (floor .exit) ≡ max (now (floor .entry))
-        (missed time (now (floor .entry)) (λ panel. getD (now (marks .entry)) panel 0) (messageIn 4 (now (frame .entry)) .entries))) ⌝ }
+        (missed time (now (floor .entry)) (λ panel. getD (now (marks .entry)) panel 0) (messageIn width (now (frame .entry)) .entries))) ⌝ }
 {
     pass_entries(time, floor, marks, barrier, frame);
     put_in_log(high, handed, marks, barrier, frame, output)

@@ -9,6 +9,7 @@ use lines::put_frame_line;
 use lines::put_hand_lines;
 use panel::Panel;
 use panel::panel_fresh;
+use parts::OUTPUT;
 use text::put_words;
 ghost use mathlib.Core.Path.{_≡_};
 ghost use mathlib.Core.Bool.{true};
@@ -74,7 +75,7 @@ fn list_next<'a, 'b>(bundle: &'a [u8], listing: Listing, text: &'b mut [u8]) -> 
             length: _,
             next,
         } => {
-            let mut output = [0u8; 1254];
+            let mut output = [0u8; OUTPUT];
             let panel = listing.panel;
             let received = panel_receive(panel, part_at(bundle, place), &mut output);
             let frames = listing.frames + 1;

@@ -1,23 +1,21 @@
 // Log records read: what the record of an index in an output or a log says, and its payload as a
 // part of the log. Each public function accepts any input.
+use frame::WIDTH;
 use numbers::number_at;
 ghost use mathlib.Core.Path.{_≡_};
 ghost use Rattle.log_records.specs.LogRecords.{isWhole, fieldsIn, logRecordAt, PayloadPart};
 
 // The bytes of a log record.
-const LOG_RECORD: usize = 38;
-
-// The bytes of a deadline.
-const WIDTH: usize = 4;
+pub const LOG_RECORD: usize = 42;
 
 // Where in a log record the deadline stands: behind the source.
-const DEADLINE_AT: usize = 1;
+pub const DEADLINE_AT: usize = 1;
 
 // Where the length of the payload stands: behind the deadline.
-const LENGTH_AT: usize = DEADLINE_AT + WIDTH;
+pub const LENGTH_AT: usize = DEADLINE_AT + WIDTH;
 
 // Where the payload stands: behind its length.
-const PAYLOAD_AT: usize = LENGTH_AT + 1;
+pub const PAYLOAD_AT: usize = LENGTH_AT + 1;
 
 // The most bytes of a payload.
 const PAYLOAD_MOST: u8 = 32;
@@ -25,7 +23,7 @@ const PAYLOAD_MOST: u8 = 32;
 // The fields of a log record, with the length of its payload; all 0 where there is none.
 #[repr(C)]
 pub struct LogFields {
-    pub deadline: u32,
+    pub deadline: u64,
     pub source: u8,
     pub length: u8,
 }
@@ -54,7 +52,7 @@ pub extern "C" fn panel_log_fields(log: &[u8], index: usize) -> LogFields
     }
     let start = index * LOG_RECORD;
     LogFields {
-        deadline: number_at(log, start + DEADLINE_AT, WIDTH) as u32,
+        deadline: number_at(log, start + DEADLINE_AT, WIDTH),
         source: log[start],
         length: log[start + LENGTH_AT],
     }

@@ -90,6 +90,17 @@ numbersAt-add bs at more width (suc count) = rw (← drop-drop more at bs, add-a
 pub numbersAt-drop : (bs : List ℕ) (at width count : ℕ) → numbersAt bs at width count ≡ numbersAt (drop at bs) 0 width count
 numbersAt-drop bs at width count = ap (λ (n : ℕ). numbersAt bs n width count) (sym (add-zero at)) ∙ numbersAt-add bs at 0 width count
 
+-- one number more, at the end
+pub numbersAt-snoc : (bs : List ℕ) (at width count : ℕ)
+    → numbersAt bs at width (suc count) ≡ numbersAt bs at width count ++ (numberAt bs (at + width * count) width ∷ [])
+unfolding numbersAt
+numbersAt-snoc bs at width zero = rw (mul-zero, add-zero)
+numbersAt-snoc bs at width (suc count) =
+    let place : at + width + width * count ≡ at + width * suc count = rw mul-suc (omega arith) in
+    ap (λ (l : List ℕ). numberAt bs at width ∷ l)
+    (numbersAt-snoc bs (at + width) width count
+    ∙ ap (λ (n : ℕ). numbersAt bs (at + width) width count ++ (numberAt bs n width ∷ [])) place)
+
 -- numbers written one after another are read back
 pub numbersAt-bigEndians : (width : ℕ) (ns rest : List ℕ) → ((i : ℕ) → getD ns i 0 < 256 ^ width)
     → numbersAt (bigEndians width ns ++ rest) 0 width (length ns) ≡ ns

@@ -3,23 +3,24 @@
 mod trace;
 
 use exports::panel_fresh_parts;
+use slots::SLOTS;
 pub use trace::panel_trace;
 ghost use mathlib.Core.Path.{_≡_};
 ghost use Rattle.rules.specs.Refusals.{freshNumber, freshRecord};
 ghost use Rattle.panel.specs.Record.{recordOf};
 
-// The record. Of the slots the first `count` hold the waiting messages in the order taken: 309 bytes
-// each, the length of a frame in 16 bits and then the frame.
+// The record. Of the slots the first `count` hold the waiting messages in the order taken: 569 bytes
+// each, the length of a frame in 16 bits and then the frame, of version 2.
 #[repr(C)]
 pub struct Panel {
     pub own: u8,
-    pub time: u32,
-    pub high: u32,
+    pub time: u64,
+    pub high: u64,
     pub count: usize,
-    pub marks: [u32; 64],
-    pub barrier: [u32; 64],
-    pub slots: [u8; 9888],
-    pub floor: u32,
+    pub marks: [u64; 64],
+    pub barrier: [u64; 64],
+    pub slots: [u8; SLOTS],
+    pub floor: u64,
 }
 
 // number is 0, or 11.
@@ -37,9 +38,9 @@ pub fn panel_fresh(number: u8) -> Fresh
     let mut at = 0;
     let mut high = 0;
     let mut count = 0;
-    let mut marks = [0u32; 64];
-    let mut barrier = [0u32; 64];
-    let mut slots = [0u8; 9888];
+    let mut marks = [0u64; 64];
+    let mut barrier = [0u64; 64];
+    let mut slots = [0u8; SLOTS];
     let mut floor = 0;
     let answer = panel_fresh_parts(
         number,

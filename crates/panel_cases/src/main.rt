@@ -43,15 +43,15 @@ fn pass_on(label: &[u8], answer: Sent, buffer: &[u8]) -> Panel {
 }
 
 fn send(p: Panel, payload: &[u8], lifetime: u16) -> Panel {
-    let mut output = [0u8; 1254];
-    let mut buffer = [0u8; 307];
+    let mut output = [0u8; OUTPUT];
+    let mut buffer = [0u8; BUFFER];
     let answer = send_by_value::panel_send(p, payload, lifetime, &mut output, &mut buffer);
     pass_on(b"send at panel ", answer, &buffer)
 }
 
 fn beacon(p: Panel, payload: &[u8]) -> Panel {
-    let mut output = [0u8; 1254];
-    let mut buffer = [0u8; 307];
+    let mut output = [0u8; OUTPUT];
+    let mut buffer = [0u8; BUFFER];
     let answer = send_by_value::panel_beacon(p, payload, &mut output, &mut buffer);
     pass_on(b"beacon at panel ", answer, &buffer)
 }

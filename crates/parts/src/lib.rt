@@ -7,17 +7,23 @@
 // reference to a struct. So the calls have long lists of parameters, always in the order of the
 // record: own, time, high, count, marks, barrier, slots, floor. A part that a call never changes is given
 // by value, if it is a number.
+use log_records::LOG_RECORD;
 use settling::settle;
 use slot_check::all_read;
 use slot_moves::gather;
+use slots::SLOTS;
 ghost use mathlib.Core.Path.{_≡_};
 ghost use Prim.Native.Nat.{_+_, _*_, _≤_};
 ghost use lib.ListN.{length};
 ghost use Rattle.frame.specs.Readable.{eachBelow};
+ghost use Rattle.rules.specs.Sizes.{logRecordLength};
 ghost use Rattle.rules.specs.Refusals.{broken as isBroken};
 ghost use Rattle.slots.specs.Slots.{Slots, Listed, firstSlots};
 ghost use Rattle.settling.specs.Record.{left, stage};
 ghost use Rattle.parts.specs.Record.{parts, recordOf, SettlesSlots};
+
+// The bytes that an output needs: room for 33 log records.
+pub const OUTPUT: usize = 33 * LOG_RECORD;
 
 // The answer of a call in place: number is 0, or that of a refusal, with count and length 0 and all
 // that was lent as it was. count is that of the log records in the output, length that of the frame
@@ -30,8 +36,8 @@ pub struct Answer {
 }
 
 // Whether each number is at most the limit. (It goes through all of them, upwards, so that the compiler
-// takes four at a time.)
-fn each_at_most(numbers: &[u32], limit: u32) -> bool
+// takes two at a time.)
+fn each_at_most(numbers: &[u64], limit: u64) -> bool
     requires { ⌜ length (now numbers) ≡ 64 ⌝ }
     ensures { λ r. ⌜ r ≡ eachBelow (limit + 1) (now (numbers .entry)) ⌝ }
 {
@@ -51,10 +57,10 @@ fn each_at_most(numbers: &[u32], limit: u32) -> bool
 // learns its length.)
 pub fn broken<'a>(
     own: u8,
-    high: u32,
+    high: u64,
     count: usize,
-    marks: &'a [u32],
-    barrier: &'a [u32],
+    marks: &'a [u64],
+    barrier: &'a [u64],
     slots: &'a [u8],
 ) -> bool
     requires { ⌜ (length (now marks) ≡ 64) × (length (now barrier) ≡ 64) × Slots (now slots) ⌝ }
@@ -83,19 +89,19 @@ pub fn broken<'a>(
 // many do.
 pub fn settle_slots(
     own: u8,
-    time: u32,
-    high: &mut u32,
+    time: u64,
+    high: &mut u64,
     waiting: usize,
     handed: &mut usize,
-    floor: &mut u32,
+    floor: &mut u64,
     places: [u8; 32],
-    marks: &mut [u32; 64],
-    barrier: &mut [u32; 64],
-    slots: &mut [u8; 9888],
+    marks: &mut [u64; 64],
+    barrier: &mut [u64; 64],
+    slots: &mut [u8; SLOTS],
     output: &mut [u8],
 ) -> usize
     requires { ⌜ Slots (now slots) × Listed (now slots) waiting places ⌝ }
-    requires { ⌜ (now handed + waiting) * 38 ≤ length (now output) ⌝ }
+    requires { ⌜ (now handed + waiting) * logRecordLength ≤ length (now output) ⌝ }
     ensures { λ r. ⌜ SettlesSlots (now (slots .entry))
         (stage (left own time (now (high .entry)) waiting (now (handed .entry)) (now (floor .entry))) places (now (marks .entry)) (now (barrier .entry)) (now (output .entry)))
         (now (slots .exit))

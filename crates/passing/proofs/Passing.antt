@@ -6,6 +6,7 @@ use lib.ListN.{getD, set}
 use lib.Bits.{bitAnd}
 use Rattle.numbers.specs.Numbers.{numberAt}
 use Rattle.frame.specs.Reading.{maskIn, messageIn}
+use Rattle.rules.specs.Sizes.{width}
 use Rattle.rules.specs.Handing.{remains, shortened, missedEntry, missed}
 use Rattle.slots.proofs.SetBits.{next}
 use Rattle.slots.proofs.Walk.{Walk, walk-start, walk-on}
@@ -19,19 +20,19 @@ module _ (bs before marks : List ℕ) (time floor : ℕ) where
     pub short : ShortBelow bs before barrier (walk .panel)
     pub risen-below : risen ≡ risenBelow bs marks time floor (walk .panel)
 
-  pub passed-start : maskIn 4 bs < 2 ^ 64 → PassedBelow before (maskIn 4 bs) 0 floor
+  pub passed-start : maskIn width bs < 2 ^ 64 → PassedBelow before (maskIn width bs) 0 floor
   passed-start fits = record { walk = walk-start bs fits; short = short-start bs before; risen-below = risen-start bs marks time floor }
 
   -- no bit is left
   pub passed-end : {barrier : List ℕ} {bits passed risen : ℕ} → PassedBelow barrier bits passed risen → bits ≡ 0
-      → (barrier ≡ shortened before (messageIn 4 bs .entries))
-      × (risen ≡ max floor (missed time floor (λ panel. getD marks panel 0) (messageIn 4 bs .entries)))
+      → (barrier ≡ shortened before (messageIn width bs .entries))
+      × (risen ≡ max floor (missed time floor (λ panel. getD marks panel 0) (messageIn width bs .entries)))
   passed-end p none = (short-end (p .walk) (p .short) none, risen-end bs marks time floor (p .walk) none (p .risen-below))
 
   -- a turn, to the next panel whose bit is set
   pub passed-on : {barrier : List ℕ} {bits passed risen : ℕ} → PassedBelow barrier bits passed risen → (bits ≡ 0 → ⊥) → (value next-risen : ℕ)
-      → value ≡ remains (getD barrier (next bits) 0) (numberAt bs (18 + 4 * passed) 4)
-      → next-risen ≡ max risen (missedEntry time 0 (getD marks (next bits) 0) (numberAt bs (18 + 4 * passed) 4))
+      → value ≡ remains (getD barrier (next bits) 0) (numberAt bs (14 + width + width * passed) width)
+      → next-risen ≡ max risen (missedEntry time 0 (getD marks (next bits) 0) (numberAt bs (14 + width + width * passed) width))
       → PassedBelow (set barrier (next bits) value) (bitAnd bits (bits - 1)) (passed + 1) next-risen
   passed-on p some value next-risen left rises =
       record {

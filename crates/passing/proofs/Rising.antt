@@ -11,6 +11,7 @@ use lib.ListN.{getD}
 use lib.Dec.{ltb}
 use Rattle.numbers.specs.Numbers.{numberAt}
 use Rattle.frame.specs.Reading.{messageIn}
+use Rattle.rules.specs.Sizes.{width}
 use Rattle.rules.specs.Panel.{hasLapsed}
 use Rattle.rules.specs.Handing.{largest, missedEntry, missed}
 use Rattle.rules.proofs.Missed.{hasLapsed-true, hasLapsed-false}
@@ -89,7 +90,7 @@ module _ (bs marks : List ℕ) (time floor : ℕ) where
 
   -- no bit is left
   pub risen-end : {bits passed risen : ℕ} (w : Walk bs bits passed) → bits ≡ 0 → risen ≡ risenBelow (w .panel)
-      → risen ≡ max floor (missed time floor (λ panel. getD marks panel 0) (messageIn 4 bs .entries))
+      → risen ≡ max floor (missed time floor (λ panel. getD marks panel 0) (messageIn width bs .entries))
   unfolding missed
   risen-end w none e =
       let panel = w .panel in
@@ -99,15 +100,15 @@ module _ (bs marks : List ℕ) (time floor : ℕ) where
 
   -- a turn: the entry of the next panel whose bit is set
   pub risen-on : {bits passed risen : ℕ} (w : Walk bs bits passed) (some : bits ≡ 0 → ⊥) (next-risen : ℕ) → risen ≡ risenBelow (w .panel)
-      → next-risen ≡ max risen (missedEntry time 0 (getD marks (next bits) 0) (numberAt bs (18 + 4 * passed) 4)) → next-risen ≡ risenBelow (next bits + 1)
+      → next-risen ≡ max risen (missedEntry time 0 (getD marks (next bits) 0) (numberAt bs (14 + width + width * passed) width)) → next-risen ≡ risenBelow (next bits + 1)
   unfolding largest
   risen-on {bits} {passed} {risen} w some next-risen e is =
       let panel = w .panel in
       let reached : next bits ≡ panel + (next bits - panel) = omega (arith, turn-above w some) in
       let skip : largest (next bits) missedOf ≡ largest panel missedOf =
       ap (λ (n : ℕ). largest n missedOf) reached ∙ largest-skip panel (next bits - panel) (λ k above lt. turn-skips w some k above (omega (arith, reached))) in
-      let here : max risen (missedEntry time 0 (getD marks (next bits) 0) (numberAt bs (18 + 4 * passed) 4)) ≡ max risen (missedOf (next bits)) =
-      sym (missed-risen time 0 risen (getD marks (next bits) 0) (numberAt bs (18 + 4 * passed) 4) (omega arith))
-      ∙ missed-risen time floor risen (getD marks (next bits) 0) (numberAt bs (18 + 4 * passed) 4) (omega (arith, e))
+      let here : max risen (missedEntry time 0 (getD marks (next bits) 0) (numberAt bs (14 + width + width * passed) width)) ≡ max risen (missedOf (next bits)) =
+      sym (missed-risen time 0 risen (getD marks (next bits) 0) (numberAt bs (14 + width + width * passed) width) (omega arith))
+      ∙ missed-risen time floor risen (getD marks (next bits) 0) (numberAt bs (14 + width + width * passed) width) (omega (arith, e))
       ∙ ap (λ (entry : ℕ). max risen (missedEntry time floor (getD marks (next bits) 0) entry)) (sym (turn-entry w some)) in
       is ∙ here ∙ rw add-one (omega (arith, e, skip))

@@ -9,6 +9,7 @@ use lib.ListN.{length, getD, set, length-set, List·getD-eq-default}
 use lib.Seq.{getD-set-same, getD-set-other, ext-getD}
 use Rattle.numbers.specs.Numbers.{numberAt}
 use Rattle.frame.specs.Reading.{messageIn}
+use Rattle.rules.specs.Sizes.{width}
 use Rattle.rules.specs.Handing.{remains, shortened}
 use Rattle.rules.proofs.Shortened.{without-entry, getD-shortened, length-shortened}
 use Rattle.slots.proofs.SetBits.{next}
@@ -17,10 +18,10 @@ use Rattle.slots.proofs.Walk.{entryOf, Walk, end-none, turn-entry, turn-above, 
 module _ (bs before : List ℕ) where
   -- the barrier as it is to be
   abbrev short : List ℕ
-  short = shortened before (messageIn 4 bs .entries)
+  short = shortened before (messageIn width bs .entries)
 
   short-entry : (k entry : ℕ) → entryOf bs k ≡ entry → getD short k 0 ≡ remains (getD before k 0) entry
-  short-entry k entry e = getD-shortened before (messageIn 4 bs .entries) k ∙ ap (remains (getD before k 0)) e
+  short-entry k entry e = getD-shortened before (messageIn width bs .entries) k ∙ ap (remains (getD before k 0)) e
 
   short-none : (k : ℕ) → entryOf bs k ≡ 0 → getD short k 0 ≡ getD before k 0
   short-none k e = short-entry k 0 e ∙ without-entry (getD before k 0)
@@ -36,9 +37,9 @@ module _ (bs before : List ℕ) where
 
 -- no bit is left
 pub short-end : {bs before barrier : List ℕ} {bits passed : ℕ} (w : Walk bs bits passed) → ShortBelow bs before barrier (w .panel) → bits ≡ 0
-    → barrier ≡ shortened before (messageIn 4 bs .entries)
+    → barrier ≡ shortened before (messageIn width bs .entries)
 short-end {bs} {before} {barrier} w s none =
-    ext-getD 0 barrier (short bs before) (s .long ∙ sym (length-shortened before (messageIn 4 bs .entries)))
+    ext-getD 0 barrier (short bs before) (s .long ∙ sym (length-shortened before (messageIn width bs .entries)))
     (λ k _.
     by-cases (decLt k (w .panel)) (s .below k)
     (λ past.
@@ -52,19 +53,19 @@ module _ {bs before barrier : List ℕ} {bits passed : ℕ} (w : Walk bs bits pa
   panel = next bits
 
   -- (past the end of the list nothing is set, and 0 stands there)
-  same : value ≡ remains (getD barrier panel 0) (numberAt bs (18 + 4 * passed) 4) → getD (set barrier panel value) panel 0 ≡ getD (short bs before) panel 0
+  same : value ≡ remains (getD barrier panel 0) (numberAt bs (14 + width + width * passed) width) → getD (set barrier panel value) panel 0 ≡ getD (short bs before) panel 0
   same is =
       by-cases (decLt panel (length barrier))
       (λ lt.
       getD-set-same barrier panel value 0 lt
       ∙ is
-      ∙ ap (λ (b : ℕ). remains b (numberAt bs (18 + 4 * passed) 4)) (s .above panel (turn-above w some))
+      ∙ ap (λ (b : ℕ). remains b (numberAt bs (14 + width + width * passed) width)) (s .above panel (turn-above w some))
       ∙ sym (short-entry bs before panel _ (turn-entry w some)))
       (λ past.
       List·getD-eq-default (set barrier panel value) 0 {n = panel} (omega (arith, past, length-set barrier panel value))
       ∙ sym
       (List·getD-eq-default (short bs before) 0 {n = panel}
-      (omega (arith, past, s .long, length-shortened before (messageIn 4 bs .entries)))))
+      (omega (arith, past, s .long, length-shortened before (messageIn width bs .entries)))))
 
   other : (k : ℕ) → k < panel → getD barrier k 0 ≡ getD (short bs before) k 0
   other k lt =
@@ -73,7 +74,7 @@ module _ {bs before barrier : List ℕ} {bits passed : ℕ} (w : Walk bs bits pa
       let from : w .panel ≤ k = omega (arith, past) in
       s .above k from ∙ sym (short-none bs before k (turn-skips w some k from lt)))
 
-  pub short-on : value ≡ remains (getD barrier panel 0) (numberAt bs (18 + 4 * passed) 4)
+  pub short-on : value ≡ remains (getD barrier panel 0) (numberAt bs (14 + width + width * passed) width)
       → ShortBelow bs before (set barrier panel value) (panel + 1)
   short-on is =
       record {

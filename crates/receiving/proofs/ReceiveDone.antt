@@ -10,7 +10,7 @@ use lib.ListN.{length, length-append}
 use Rattle.numbers.proofs.Over.{over-nil}
 use Rattle.frame.specs.Message.{Message}
 use Rattle.frame.specs.Refusal.{firstOf}
-use Rattle.frame.specs.Reading.{messageIn}
+use Rattle.frame.specs.Reading.{messageIn, messageFrom}
 use Rattle.rules.specs.Sizes.{width, logRecordLength}
 use Rattle.rules.specs.Panel.{Panel as Record, ready}
 use Rattle.rules.specs.Handing.{hand, logRecord, logRecords}
@@ -76,13 +76,14 @@ length-atOnce p bytes reads = go (ready p (messageIn width bytes))
     go false = refl
 
 -- 32 are not waiting, or the message is ready
-pub room : (p : Parts) (bytes output : List ℕ) → firstOf (receiveChecks (recordOf p) bytes output) ≡ 0
+pub room : (p : Parts) (bytes output : List ℕ) → messageFrom bytes ≡ messageIn width bytes → firstOf (receiveChecks (recordOf p) bytes output) ≡ 0
     → (p .count < 32) ⊎ (ready (asking (p .marks) (p .time) (p .floor)) (messageIn width bytes) ≡ true)
-room p bytes output passed =
+room p bytes output same passed =
     ⊎-elim (λ (l : length (held (p .slots) (firstSlots (p .count))) < 32). inl (omega (arith, length-firstSlots (p .slots) (p .count))))
-    (λ r. inr (ready-asking (recordOf p) (messageIn width bytes) ∙ r)) (receive-passed (recordOf p) bytes output passed .room)
+    (λ r. inr (ready-asking (recordOf p) (messageIn width bytes) ∙ ap (ready (recordOf p)) (sym same) ∙ r)) (receive-passed (recordOf p) bytes output passed .room)
 
-module _ (p : Parts) (bytes output : List ℕ) (kept : Kept (p .slots) (p .count)) (reads : Reads bytes) (slots′ : List ℕ) (begun : Stage)
+module _ (p : Parts) (bytes output : List ℕ) (kept : Kept (p .slots) (p .count)) (reads : Reads bytes) (wide : messageFrom bytes ≡ messageIn width bytes)
+    (slots′ : List ℕ) (begun : Stage)
     (taken : Taken (messageIn width bytes) (p .slots) (begunStage p output) slots′ begun)
     (slots″ : List ℕ) (after : Stage) (settles : SettlesSlots slots′ begun slots″ after) where
   -- the record left has the own number and the time that it came with
@@ -99,7 +100,8 @@ module _ (p : Parts) (bytes output : List ℕ) (kept : Kept (p .slots) (p .count
       let m = messageIn width bytes in
       let same = panel-started p output kept in
       settled-promised (recordOf p) (receive bytes output) passed slots′ (handedAtOnce (recordOf p) m) begun slots″ after settles
-      (receiving-taking (recordOf p) m
+      (ap (receiving (recordOf p)) wide
+      ∙ receiving-taking (recordOf p) m
       ∙ ap (λ (r : Record). afterwards (handedAtOnce (recordOf p) m) (settle r)) (sym (taken .panel ∙ ap (λ (r : Record). taking r m) same)))
       (rw same at (taken .logged .output))
       (rw same at (taken .logged .handed) ∙ zero-add (length (handedAtOnce (recordOf p) m)))

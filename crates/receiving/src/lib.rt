@@ -4,12 +4,17 @@
 // have the public calls.
 use checking::receive_number;
 use choosing::ready;
+use frame::BUFFER;
+use frame::is_narrow;
 use handing::hand;
 use parts::Answer;
 use parts::settle_slots;
 use settling::Settling;
 use slot_moves::put_frame;
+use slots::SLOTS;
 use slots::in_order;
+use widening::first;
+use widening::widen;
 ghost use mathlib.Core.Path.{_≡_};
 ghost use mathlib.Core.Bool.{true};
 ghost use mathlib.Core.Logic.{_⊎_};
@@ -17,28 +22,30 @@ ghost use mathlib.Core.List.{[]};
 ghost use Prim.Native.Nat.{_+_, _*_, _≤_, _<_};
 ghost use lib.ListN.{length};
 ghost use Rattle.frame.specs.Reading.{messageIn};
+ghost use Rattle.rules.specs.Sizes.{width, logRecordLength};
 ghost use Rattle.rules.specs.Panel.{ready as isReady};
 ghost use Rattle.rules.specs.Results.{receive};
 ghost use Rattle.slots.specs.Slots.{Reads, Slots, Kept, firstSlots};
 ghost use Rattle.choosing.specs.Choice.{asking};
 ghost use Rattle.settling.specs.Record.{stage};
 ghost use Rattle.parts.specs.Record.{parts, PromisedInPlace};
+ghost use Rattle.checking.specs.Checks.{NotNarrow};
 ghost use Rattle.receiving.specs.Steps.{Taken};
 
 // Takes the message of a readable frame: a ready one is handed without entering the list, any other
 // goes to its end.
 fn take(
     s: Settling,
-    marks: &mut [u32; 64],
-    barrier: &mut [u32; 64],
-    slots: &mut [u8; 9888],
+    marks: &mut [u64; 64],
+    barrier: &mut [u64; 64],
+    slots: &mut [u8; SLOTS],
     frame: &[u8],
     output: &mut [u8],
 ) -> Settling
     requires { ⌜ Reads (now frame) × Slots (now slots) × Kept (now slots) (s .waiting) ⌝ }
-    requires { ⌜ (s .waiting < 32) ⊎ (isReady (asking (now marks) (s .time) (s .floor)) (messageIn 4 (now frame)) ≡ true) ⌝ }
-    requires { ⌜ s .handed * 38 + 38 ≤ length (now output) ⌝ }
-    ensures { λ r. ⌜ Taken (messageIn 4 (now (frame .entry)))
+    requires { ⌜ (s .waiting < 32) ⊎ (isReady (asking (now marks) (s .time) (s .floor)) (messageIn width (now frame)) ≡ true) ⌝ }
+    requires { ⌜ s .handed * logRecordLength + logRecordLength ≤ length (now output) ⌝ }
+    ensures { λ r. ⌜ Taken (messageIn width (now (frame .entry)))
         (now (slots .entry)) (stage s (firstSlots 32) (now (marks .entry)) (now (barrier .entry)) (now (output .entry)))
         (now (slots .exit)) (stage r (firstSlots 32) (now (marks .exit)) (now (barrier .exit)) (now (output .exit))) ⌝ }
 {
@@ -66,19 +73,20 @@ fn take(
     rest
 }
 
-// A frame is received: the log records stand in the output.
-pub fn receive_in_place(
+// A frame is received that does not read in version 1.
+fn receive_wide(
     own: u8,
-    time: u32,
-    high: &mut u32,
+    time: u64,
+    high: &mut u64,
     count: &mut usize,
-    marks: &mut [u32; 64],
-    barrier: &mut [u32; 64],
-    slots: &mut [u8; 9888],
-    floor: &mut u32,
+    marks: &mut [u64; 64],
+    barrier: &mut [u64; 64],
+    slots: &mut [u8; SLOTS],
+    floor: &mut u64,
     frame: &[u8],
     output: &mut [u8],
 ) -> Answer
+    requires { ⌜ NotNarrow (now frame) ⌝ }
     ensures { λ r. ⌜ PromisedInPlace
         (parts own time (now (high .entry)) (now (count .entry)) (now (marks .entry)) (now (barrier .entry)) (now (slots .entry)) (now (floor .entry)))
         (receive (now (frame .entry)) (now (output .entry))) r
@@ -135,4 +143,54 @@ pub fn receive_in_place(
         length: 0,
         number: 0,
     }
+}
+
+// A frame is received: the log records stand in the output. One of version 1 is widened first, so that
+// all behind knows version 2 alone.
+pub fn receive_in_place(
+    own: u8,
+    time: u64,
+    high: &mut u64,
+    count: &mut usize,
+    marks: &mut [u64; 64],
+    barrier: &mut [u64; 64],
+    slots: &mut [u8; SLOTS],
+    floor: &mut u64,
+    frame: &[u8],
+    output: &mut [u8],
+) -> Answer
+    ensures { λ r. ⌜ PromisedInPlace
+        (parts own time (now (high .entry)) (now (count .entry)) (now (marks .entry)) (now (barrier .entry)) (now (slots .entry)) (now (floor .entry)))
+        (receive (now (frame .entry)) (now (output .entry))) r
+        (parts own time (now (high .exit)) (now (count .exit)) (now (marks .exit)) (now (barrier .exit)) (now (slots .exit)) (now (floor .exit)))
+        (now (output .exit)) [] ⌝ }
+{
+    if is_narrow(frame) {
+        let mut wide = [0u8; BUFFER];
+        let length = widen(frame, &mut wide);
+        return receive_wide(
+            own,
+            time,
+            high,
+            count,
+            marks,
+            barrier,
+            slots,
+            floor,
+            first(&wide, length),
+            output,
+        );
+    }
+    receive_wide(
+        own,
+        time,
+        high,
+        count,
+        marks,
+        barrier,
+        slots,
+        floor,
+        frame,
+        output,
+    )
 }

@@ -20,6 +20,7 @@ use Rattle.rules.specs.Cases.{Holds, finished, _and_, EachHolds}
 use Rattle.rules.specs.FarAheadCases.{farFrame1, farFrame2, caseFarAhead, caseFarAheadStays, caseLastDays}
 use Rattle.rules.specs.BarrierCases.{frameC, frameD, caseYard, caseYardMixed, caseRemoved, caseOwn}
 use Rattle.rules.specs.FloorCases.{caseWrongYear, caseFloor, caseFloorUnreached}
+use Rattle.rules.specs.VersionCases.{caseVersions, caseShort, casePast32}
 use Rattle.rules.specs.BenchCases.{frame1, case1, frame2, case2, case3, case4, case5, case6, case7, case8, queue, case9, case10, case11, caseBeacon, caseOrder, caseUnreached, benchCases}
 
 -- whoever unfolds these unfolds all definitions: of frames, of a panel's rules, of the calls, and the cases
@@ -36,7 +37,7 @@ unfolding framesOpened rulesOpened handAndSettle sendDeadline newMessage sending
 callsOpened = tt
 
 casesOpened : Unit {0}
-unfolding callsOpened frame1 frame2 farFrame1 farFrame2 queue case1 case2 case3 case4 case5 case6 case7 case8 case9 case10 case11 caseBeacon caseOrder caseUnreached caseFarAhead caseFarAheadStays caseLastDays fresh caseYard caseYardMixed caseRemoved caseOwn caseWrongYear caseFloor caseFloorUnreached
+unfolding callsOpened frame1 frame2 farFrame1 farFrame2 queue case1 case2 case3 case4 case5 case6 case7 case8 case9 case10 case11 caseBeacon caseOrder caseUnreached caseFarAhead caseFarAheadStays caseLastDays fresh caseYard caseYardMixed caseRemoved caseOwn caseWrongYear caseFloor caseFloorUnreached caseVersions caseShort casePast32
 casesOpened = tt
 
 -- Of every step of every case, the result that the case names is the one that documents 01 and 02 define. A declaration for each case, as the
@@ -157,11 +158,23 @@ case-floor-unreached : Holds caseFloorUnreached
 unfolding casesOpened
 case-floor-unreached = after case-floor refl
 
+case-versions : Holds caseVersions
+unfolding casesOpened
+case-versions = after case-floor-unreached refl
+
+case-short : Holds caseShort
+unfolding casesOpened
+case-short = after case-versions refl
+
+case-past-32 : Holds casePast32
+unfolding casesOpened
+case-past-32 = after case-short refl
+
 -- all of them in one statement
 pub bench-cases : EachHolds benchCases
 bench-cases =
-    case-1 and case-2 and case-3 and case-4 and case-5 and case-6 and case-7 and case-8 and case-9 and case-10 and case-11 and case-beacon and case-order and case-unreached and case-far-ahead and case-far-ahead-stays and case-last-days and case-yard-new and case-yard-old and case-yard-new-new and case-yard-new-old and case-yard-old-new and case-yard-old-old and case-removed and case-own and case-wrong-year and case-floor and case-floor-unreached and finished
+    case-1 and case-2 and case-3 and case-4 and case-5 and case-6 and case-7 and case-8 and case-9 and case-10 and case-11 and case-beacon and case-order and case-unreached and case-far-ahead and case-far-ahead-stays and case-last-days and case-yard-new and case-yard-old and case-yard-new-new and case-yard-new-old and case-yard-old-new and case-yard-old-old and case-removed and case-own and case-wrong-year and case-floor and case-floor-unreached and case-versions and case-short and case-past-32 and finished
 
 -- At the busy yard a frame of the new make has fewer bytes than one of the old make.
-pub yard-shorter : (length (frameC newMake) ≡ 23) × (length (frameC oldMake) ≡ 27) × (length (frameD newMake) ≡ 23) × (length (frameD oldMake) ≡ 31)
+pub yard-shorter : (length (frameC newMake) ≡ 31) × (length (frameC oldMake) ≡ 39) × (length (frameD newMake) ≡ 31) × (length (frameD oldMake) ≡ 47)
 yard-shorter = (refl, refl, refl, refl)

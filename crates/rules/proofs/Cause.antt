@@ -7,7 +7,7 @@ use mathlib.Core.Logic.{_⊎_, inl, inr, ⊎-elim}
 use mathlib.Core.List.{List, [], _∷_, List·Memᴰ·head as first, List·Memᴰ·tail as later, Memᴰ·cast}
 use lib.ListN.{getD}
 use Rattle.frame.specs.Message.{Message}
-use Rattle.frame.specs.Reading.{messageIn}
+use Rattle.frame.specs.Reading.{messageFrom}
 use Rattle.frame.proofs.Readable.{Readable}
 use Rattle.rules.specs.Sizes.{width}
 use Rattle.rules.specs.Panel.{Name}
@@ -15,7 +15,7 @@ use Rattle.rules.specs.Lists.{_isIn_, nameIn, Sent, Before, direct, chai
 
 -- the message that a frame sent carries, and its name
 abbrev pub carried : Sent → Message
-carried s = messageIn width (s .frame)
+carried s = messageFrom (s .frame)
 
 abbrev pub name : Sent → Name
 name s = nameIn (s .frame)

@@ -11,7 +11,7 @@ use borrow.Author.Tests.{ltb-false, leb-false, eqb-false, le-ltb}
 use Rattle.numbers.specs.Numbers.{Bytes}
 use Rattle.frame.specs.Message.{Message}
 use Rattle.frame.specs.Refusal.{firstOf}
-use Rattle.frame.specs.Reading.{checks, refusal, messageIn}
+use Rattle.frame.specs.Reading.{checks, widthIn, refusalOf, messageFrom}
 use Rattle.frame.specs.Readable.{eachBelow, readable}
 use Rattle.frame.proofs.Conjunction.{and-both}
 use Rattle.frame.proofs.FirstOf.{eachNumber, applies-none, firstOf-append}
@@ -120,7 +120,7 @@ new-readable p payload lifetime output buffer P len bytes =
 pub record ReceivePassed (p : Panel) (bytes output : List ℕ) (m : Message) : Type 0 where
   pub valid : Valid p
   pub output-room : outputLength ≤ length output
-  pub read : refusal width bytes ≡ 0
+  pub read : refusalOf bytes ≡ 0
   pub foreign : m .source ≢ p .own
   pub alive : limit p ≤ m .deadline
   pub near : m .deadline ≤ p .time + farthestAhead
@@ -128,14 +128,14 @@ pub record ReceivePassed (p : Panel) (bytes output : List ℕ) (m : Message) : T
   pub not-waiting : (w : Message) → w isIn p .waiting → nameOf w ≢ nameOf m
   pub room : (length (p .waiting) < 32) ⊎ (ready p m ≡ true)
 
-pub receive-passed : (p : Panel) (bytes output : List ℕ) → firstOf (receiveChecks p bytes output) ≡ 0 → ReceivePassed p bytes output (messageIn width bytes)
+pub receive-passed : (p : Panel) (bytes output : List ℕ) → firstOf (receiveChecks p bytes output) ≡ 0 → ReceivePassed p bytes output (messageFrom bytes)
 unfolding receiveChecks messageChecks tooFarAhead eachNumber checks
 receive-passed p bytes output e =
-    let m = messageIn width bytes in
+    let m = messageFrom bytes in
     let start : List (Bool × ℕ) = (broken p, 26) ∷ (ltb (length output) outputLength, 10) ∷ [] in
-    let (begun, behind) = firstOf-append start (checks width bytes ++ messageChecks p m) refl e in
+    let (begun, behind) = firstOf-append start (checks (widthIn bytes) bytes ++ messageChecks p m) refl e in
     let none = applies-none start refl begun in
-    let (read, rest) = firstOf-append (checks width bytes) (messageChecks p m) refl behind in
+    let (read, rest) = firstOf-append (checks (widthIn bytes) bytes) (messageChecks p m) refl behind in
     let passed = applies-none (messageChecks p m) refl rest in
     let (above, new) = or-neither (leb (m .deadline) (getD (p .marks) (m .source) 0)) (isWaiting m (p .waiting)) (passed 3) in
     record {

@@ -10,13 +10,12 @@ use lib.ListN.{length, getD}
 use lib.Dec.{eqb, ltb}
 use borrow.Author.Tests.{eqb-false, ltb-true, ltb-false, le-ltb}
 use Rattle.numbers.specs.Numbers.{Bytes}
-use Rattle.numbers.proofs.NumberAt.{numberAt-lt}
 use Rattle.frame.specs.Message.{Message}
 use Rattle.frame.specs.Refusal.{firstOf}
-use Rattle.frame.specs.Reading.{checks, refusal, messageIn}
+use Rattle.frame.specs.Reading.{checks, widthIn, refusalOf, messageFrom}
 use Rattle.frame.proofs.FirstOf.{eachNumber, firstOf-each, firstOf-append, firstOf-left, firstOf-right}
-use Rattle.frame.proofs.Passed.{zero-passed}
-use Rattle.rules.specs.Sizes.{width, lastDeadline, outputLength}
+use Rattle.frame.proofs.Theorems.{from-readable}
+use Rattle.rules.specs.Sizes.{lastDeadline, outputLength}
 use Rattle.rules.specs.Panel.{Name, Panel, lapsed, ready}
 use Rattle.rules.specs.Handing.{hand}
 use Rattle.rules.specs.Settling.{Settled, withWaiting, settle}
@@ -68,34 +67,33 @@ row-32 false false false false false e = absurd (omega (arith, e))
 
 module _ (p : Panel) (bytes output : List ℕ) where
   abbrev m : Message
-  m = messageIn width bytes
+  m = messageFrom bytes
 
   abbrev start : List (Bool × ℕ)
   start = (broken p, 26) ∷ (ltb (length output) outputLength, 10) ∷ []
 
   abbrev front : List (Bool × ℕ)
-  front = start ++ checks width bytes
+  front = start ++ checks (widthIn bytes) bytes
 
   far : firstOf (messageChecks p m) ≡ 32 → p .time + farthestAhead < m .deadline
   unfolding messageChecks tooFarAhead
   far e = ltb-true (p .time + farthestAhead) (m .deadline) (row-32 _ _ _ _ _ e)
 
-  refused-far : defined p (receive bytes output) .number ≡ 32 → (refusal width bytes ≡ 0) × (p .time + farthestAhead < m .deadline)
+  refused-far : defined p (receive bytes output) .number ≡ 32 → (refusalOf bytes ≡ 0) × (p .time + farthestAhead < m .deadline)
   unfolding receiveChecks eachNumber checks
   refused-far is =
       let number : firstOf (front ++ messageChecks p m) ≡ 32 = sym (defined-number p (receive bytes output)) ∙ is in
       by-cases (ℕ-discrete (firstOf front) 0)
-      (λ e. (firstOf-append start (checks width bytes) refl e .1, far (sym (firstOf-right front (messageChecks p m) refl e) ∙ number)))
+      (λ e. (firstOf-append start (checks (widthIn bytes) bytes) refl e .1, far (sym (firstOf-right front (messageChecks p m) refl e) ∙ number)))
       (λ refuses. absurd (without-32 front refl (sym (firstOf-left front (messageChecks p m) refuses) ∙ number)))
 
   taken-near : defined p (receive bytes output) .number ≡ 0 → m .deadline ≤ p .time + farthestAhead
   taken-near e = receive-passed p bytes output (sym (defined-number p (receive bytes output)) ∙ e) .near
 
   never-late : Bytes bytes → lastDeadline ≤ p .time + farthestAhead → defined p (receive bytes output) .number ≢ 32
-  unfolding messageIn
   never-late given late is =
       let (reads, above) = refused-far is in
-      omega (arith, above, numberAt-lt bytes 6 width given (omega (arith, zero-passed width bytes reads .long)))
+      omega (arith, above, from-readable bytes given reads .fits)
 
 -- ---- what waits, and the marks
 
@@ -123,7 +121,7 @@ unfolding sending receiving clocking settingBack
 effect-stays p (send payload lifetime output buffer) =
     let S = hand-stays (emptied p) (newMessage p payload lifetime) in record { waiting = S .waiting; marks = S .marks }
 effect-stays p (receive bytes output) =
-    let m = messageIn width bytes in
+    let m = messageFrom bytes in
     cond-both (Stays p) (ready p m) (λ _. hand-stays p m) (λ _. list-stays p (p .waiting ++ (m ∷ [])) (λ w i. Memᴰ·append-left _ i))
 effect-stays p (clock time output) =
     let q = withTime p time in

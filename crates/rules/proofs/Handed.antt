@@ -5,7 +5,7 @@ use mathlib.Core.Logic.{⊎-elim}
 use mathlib.Core.List.{List, [], _∷_, _++_, List·Memᴰ·head as first, List·Memᴰ·tail as later}
 use lib.ListN.{length, length-append}
 use Rattle.frame.specs.Message.{Message}
-use Rattle.frame.specs.Reading.{messageIn}
+use Rattle.frame.specs.Reading.{messageFrom}
 use Rattle.frame.proofs.Readable.{Readable}
 use Rattle.rules.specs.Sizes.{width}
 use Rattle.rules.specs.Panel.{Panel, ready}
@@ -25,7 +25,7 @@ unfolding sending receiving clocking settingBack handAndSettle hand
 effect-count p (send payload lifetime output buffer) le =
     omega (arith, le, settle-settles (hand (emptied p) (newMessage p payload lifetime)) .count)
 effect-count p (receive bytes output) le =
-    let m = messageIn width bytes in
+    let m = messageFrom bytes in
     let q = withWaiting p (p .waiting ++ (m ∷ [])) in
     cond-both (λ (s : Settled). length (s .handed) ≤ 33) (ready p m) (λ _. omega (arith, le, settle-settles (hand p m) .count))
     (λ _. omega (arith, le, settle-settles q .count, length-append (p .waiting) (m ∷ [])))

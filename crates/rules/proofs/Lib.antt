@@ -25,6 +25,7 @@ pub mod ClockStep
 pub mod SetBackStep
 pub mod Reached
 pub mod Results
+pub mod Alike
 pub mod FarAhead
 pub mod Theorems
 pub mod Shams

@@ -1,15 +1,16 @@
 -- A receive keeps what holds of a list. Assumes nothing.
 use Prim.Native.Nat.{ℕ, _+_, _<_}
 use native.Mathlib.Omega.{arith}
-use mathlib.Core.Path.{_≡_, refl, sym, ap, _∙_, subst, subst⁻¹}
+use mathlib.Core.Path.{_≡_, refl, sym, _∙_, subst, subst⁻¹}
 use mathlib.Core.Logic.{_⊎_, inl, inr, ⊎-elim, _≢_}
 use mathlib.Core.Bool.{true, true≢false}
 use mathlib.Core.List.{List, [], _∷_, _++_, List·Memᴰ·head as first, List·Memᴰ·tail as later, Memᴰ·append-left, Memᴰ·append-right}
 use lib.ListN.{length, length-append}
 use Rattle.frame.specs.Message.{Message}
 use Rattle.frame.specs.Refusal.{firstOf}
-use Rattle.frame.specs.Reading.{messageIn}
+use Rattle.frame.specs.Reading.{refusalOf, messageFrom}
 use Rattle.frame.proofs.Readable.{Readable}
+use Rattle.frame.proofs.Theorems.{reads-alike}
 use Rattle.rules.specs.Sizes.{width}
 use Rattle.rules.specs.Panel.{Name, nameOf, Make, Panel, ready}
 use Rattle.rules.specs.Handing.{hand}
@@ -42,7 +43,7 @@ module _ (earlier : List Made) (L : ListSound earlier) (i : ℕ) (make : Make) (
   given-sound = of-make make (L .sites i)
 
   abbrev m : Message
-  m = messageIn width bytes
+  m = messageFrom bytes
 
   abbrev log : List Name
   log = logAt i earlier
@@ -149,16 +150,18 @@ module _ (earlier : List Made) (L : ListSound earlier) (i : ℕ) (make : Make) (
     unfolding framesSent
     done-sound = quiet-step earlier L i make (receive bytes output) _ refl (subst⁻¹ (SiteSound (sends earlier) i) site-done receiving-sound)
 
-  -- where the call is not refused, the frame was sent
-  given-sent : (number : ℕ) → number ≡ 0
+  -- where the call is not refused, the message was sent
+  given-sent : (number : ℕ) → number ≡ 0 → refusalOf bytes ≡ 0
       → Given (sends earlier) (receive bytes output) (unless number (refused p output []) (done (receiving p m) output [] [])) → WasSent (sends earlier) m
   unfolding Given unless done
-  given-sent number e (inl (s, k, f)) = (s, k, ap (messageIn width) f)
-  given-sent number e (inr refuses) = absurd ((rw e at refuses) refl)
+  given-sent number e reads (inl (s, k, f)) = (s, k, reads-alike (s .frame) bytes reads (sym f) .1)
+  given-sent number e reads (inr refuses) = absurd ((rw e at refuses) refl)
 
   pub receive-step : Given (sends earlier) (receive bytes output) (defined p (receive bytes output))
       → ListSound (made i make (receive bytes output) (defined p (receive bytes output)) ∷ earlier)
   unfolding defined
   receive-step given =
       unless-step earlier L i make (receive bytes output) (firstOf (receiveChecks p bytes output)) output [] (done (receiving p m) output [] [])
-      (λ e. done-sound (receive-passed p bytes output e) (given-sent (firstOf (receiveChecks p bytes output)) e given))
+      (λ e.
+      let P = receive-passed p bytes output e in
+      done-sound P (given-sent (firstOf (receiveChecks p bytes output)) e (P .read) given))

@@ -11,11 +11,10 @@ use lib.Dec.{eqb}
 use borrow.Author.Tests.{eqb-false}
 use Rattle.numbers.specs.Numbers.{Bytes}
 use Rattle.frame.specs.Refusal.{firstOf}
-use Rattle.frame.specs.Reading.{checks, messageIn}
+use Rattle.frame.specs.Reading.{checks, messageFrom}
 use Rattle.frame.proofs.FirstOf.{applies, pass, eachNumber, firstOf-each}
 use Rattle.frame.proofs.Readable.{readable-true}
-use Rattle.frame.proofs.Passed.{zero-passed, passed-readable}
-use Rattle.frame.proofs.Theorems.{frame-size}
+use Rattle.frame.proofs.Theorems.{from-readable, frame-size}
 use Rattle.rules.specs.Sizes.{width, outputLength}
 use Rattle.rules.specs.Panel.{Panel}
 use Rattle.rules.specs.Handing.{logRecords}
@@ -73,7 +72,7 @@ effect-readable p (send payload lifetime output buffer) len bytes e =
     sending-readable p payload lifetime (P .valid .waiting) (new-readable p payload lifetime output buffer P len bytes)
 effect-readable p (receive bytes output) len given e =
     let P = receive-passed p bytes output e in
-    receiving-readable p (messageIn width bytes) (P .valid .waiting) (passed-readable width bytes given (zero-passed width bytes (P .read)))
+    receiving-readable p (messageFrom bytes) (P .valid .waiting) (from-readable bytes given (P .read))
 effect-readable p (clock time output) len given e = clocking-readable p time (clock-passed p time output e .valid .waiting)
 effect-readable p (setBack reading) len given e = λ m i. elim i [ ]
 
@@ -92,7 +91,7 @@ pub buffer-fits : (p : Panel) (call : Call) → length (p .barrier) ≡ 64 → B
 buffer-fits p (send payload lifetime output buffer) len bytes e =
     let P = send-passed p payload lifetime output buffer e in
     let r = new-readable p payload lifetime output buffer P len bytes in
-    omega (arith, P .buffer-room, frame-size (newMessage p payload lifetime) (readable-true width (newMessage p payload lifetime) r) .1)
+    omega (arith, P .buffer-room, frame-size width (newMessage p payload lifetime) (readable-true width (newMessage p payload lifetime) r) .1)
 buffer-fits p (receive bytes output) len given e = omega arith
 buffer-fits p (clock time output) len given e = omega arith
 buffer-fits p (setBack reading) len given e = omega arith

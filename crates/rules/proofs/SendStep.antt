@@ -11,9 +11,9 @@ use Rattle.numbers.proofs.Over.{take-over}
 use Rattle.frame.specs.Message.{Message}
 use Rattle.frame.specs.Frame.{frame}
 use Rattle.frame.specs.Refusal.{firstOf}
-use Rattle.frame.specs.Reading.{messageIn}
+use Rattle.frame.specs.Reading.{messageFrom}
 use Rattle.frame.proofs.Readable.{Readable}
-use Rattle.frame.proofs.Places.{frame-message}
+use Rattle.frame.proofs.Theorems.{messageFrom-frame}
 use Rattle.rules.specs.Sizes.{width}
 use Rattle.rules.specs.Panel.{Name, nameOf, Make, Panel}
 use Rattle.rules.specs.Handing.{hand}
@@ -57,7 +57,7 @@ module _ (earlier : List Made) (L : ListSound earlier) (i : ℕ) (make : Make) (
   -- it reads back as the message
   carried-is : Readable width m → carried new ≡ m
   unfolding new
-  carried-is r = ap (messageIn width) (take-over buffer (frame width m)) ∙ frame-message width m (omega arith, omega arith) r
+  carried-is r = ap messageFrom (take-over buffer (frame width m)) ∙ messageFrom-frame width m (omega arith) r
 
   -- the message is a new one, whose entries name messages of the log and cover it
   m-new : Readable width m → New (sends earlier) m (logAt i earlier)

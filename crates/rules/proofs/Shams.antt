@@ -5,10 +5,9 @@ use mathlib.Core.Path.{_≡_, refl}
 use mathlib.Core.Logic.{inl, inr, ⊎-elim}
 use mathlib.Core.List.{List, [], _∷_, _++_, List·Memᴰ·head as first, List·Memᴰ·tail as later}
 use Rattle.numbers.specs.Numbers.{Bytes}
-use Rattle.frame.specs.Reading.{messageIn}
+use Rattle.frame.specs.Reading.{messageFrom}
 use Rattle.frame.specs.Readable.{eachBelow}
 use Rattle.frame.proofs.EachNumber.{eachBelow-lt}
-use Rattle.rules.specs.Sizes.{width}
 use Rattle.rules.specs.Panel.{Name, Make, newMake, Panel, fresh}
 use Rattle.rules.specs.Settling.{withWaiting}
 use Rattle.rules.specs.Calls.{handAndSettle}
@@ -27,14 +26,14 @@ use Rattle.rules.proofs.Cause.{LastStep, last}
 pub holdsBack : Panel → Call → Result
 holdsBack p (send payload lifetime output buffer) = defined p (send payload lifetime output buffer)
 holdsBack p (receive bytes output) =
-    done (record { panel = withWaiting p (p .waiting ++ (messageIn width bytes ∷ [])); handed = [] }) output [] []
+    done (record { panel = withWaiting p (p .waiting ++ (messageFrom bytes ∷ [])); handed = [] }) output [] []
 holdsBack p (clock time output) = defined p (clock time output)
 holdsBack p (setBack reading) = defined p (setBack reading)
 
 -- one that hands each on arrival
 pub handsOnArrival : Panel → Call → Result
 handsOnArrival p (send payload lifetime output buffer) = defined p (send payload lifetime output buffer)
-handsOnArrival p (receive bytes output) = done (handAndSettle p (messageIn width bytes)) output [] []
+handsOnArrival p (receive bytes output) = done (handAndSettle p (messageFrom bytes)) output [] []
 handsOnArrival p (clock time output) = defined p (clock time output)
 handsOnArrival p (setBack reading) = defined p (setBack reading)
 

@@ -13,10 +13,10 @@ use Rattle.numbers.specs.Numbers.{Bytes}
 use Rattle.numbers.proofs.Over.{length-over, take-over}
 use Rattle.frame.specs.Message.{Message}
 use Rattle.frame.specs.Frame.{frame}
-use Rattle.frame.specs.Reading.{message, checks, refusal, reading}
+use Rattle.frame.specs.Reading.{message, checks, widthIn, refusalOf, readingOf}
 use Rattle.frame.specs.Refusal.{firstOf}
 use Rattle.frame.proofs.FirstOf.{eachNumber, firstOf-each}
-use Rattle.frame.proofs.Theorems.{reading-frame}
+use Rattle.frame.proofs.Theorems.{readingOf-frame}
 use Rattle.frame.proofs.Readable.{readable-true}
 use Rattle.rules.specs.Sizes.{width}
 use Rattle.rules.specs.Panel.{Name, Make, Panel, ready, fresh}
@@ -116,9 +116,9 @@ listed table each =
 pub number-listed : (p : Panel) (call : Call) → Listed (defined p call .number)
 number-listed p call = rw (defined-number p call) (listed (checksOf p call) (checks-listed p call))
 
-pub reading-listed : (bytes : List ℕ) → Listed (refusal width bytes)
+pub reading-listed : (bytes : List ℕ) → Listed (refusalOf bytes)
 unfolding eachNumber checks
-reading-listed bytes = listed (checks width bytes) refl
+reading-listed bytes = listed (checks (widthIn bytes) bytes) refl
 
 pub fresh-listed : (own : ℕ) → Listed (freshNumber own)
 unfolding eachNumber freshNumber
@@ -152,15 +152,15 @@ lengths-kept p call len bytes =
 -- The frame that a send wrote reads back as the message that it sent.
 pub sent-reads : (p : Panel) (payload : List ℕ) (lifetime : ℕ) (output buffer : List ℕ) → length (p .barrier) ≡ 64 → Bytes payload
     → let result = defined p (send payload lifetime output buffer) in
-    result .number ≡ 0 → reading width (take (result .frameLength) (result .buffer)) ≡ message (newMessage p payload lifetime)
+    result .number ≡ 0 → readingOf (take (result .frameLength) (result .buffer)) ≡ message (newMessage p payload lifetime)
 unfolding refused done
 sent-reads p payload lifetime output buffer len bytes =
     let m = newMessage p payload lifetime in
-    defined-both (λ r. r .number ≡ 0 → reading width (take (r .frameLength) (r .buffer)) ≡ message m) p (send payload lifetime output buffer)
+    defined-both (λ r. r .number ≡ 0 → readingOf (take (r .frameLength) (r .buffer)) ≡ message m) p (send payload lifetime output buffer)
     (λ n e z. absurd (omega (arith, z)))
     (λ e _.
     let r = new-readable p payload lifetime output buffer (send-passed p payload lifetime output buffer e) len bytes in
-    ap (reading width) (take-over buffer (frame width m)) ∙ reading-frame width m (omega arith, omega arith) (readable-true width m r))
+    ap readingOf (take-over buffer (frame width m)) ∙ readingOf-frame width m (omega arith) (readable-true width m r))
 
 -- A fresh panel is let through by 26, whatever number was asked for.
 pub fresh-valid : (own : ℕ) → broken (freshRecord own) ≡ false

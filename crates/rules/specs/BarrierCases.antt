@@ -5,29 +5,29 @@ use lib.ListN.{replicate}
 use Rattle.frame.specs.Message.{Message, messageOf}
 use Rattle.rules.specs.Panel.{Make, oldMake, newMake, fresh, ofMake}
 use Rattle.rules.specs.Results.{send, receive}
-use Rattle.rules.specs.Cases.{Step, step, of, panelOf, withFloor, output, buffer, logged, frameFrom, zeros8, sent, taken, refusedWith}
+use Rattle.rules.specs.Cases.{Step, step, of, panelOf, withFloor, output, buffer, logged, frameFrom, zeros4, zeros8, sent, taken, refusedWith}
 
 -- ---- A busy yard. Panels 0, 1, 2 and 3, at time 0, send one message each, with lifetimes 100, 200, 300 and 400: A, B, C and D. Each has those
 -- before its own in its log. B names A; so a new panel that has A and B in its log names B alone. Of the old make C has 27 bytes and D 31; of
 -- the new make both have 23.
 
 abbrev frameA : List ℕ
-frameA = frameFrom (0x00 ∷ 0x00 ∷ 0x00 ∷ 0x00 ∷ 0x64 ∷ zeros8) (0x00 ∷ [])
+frameA = frameFrom (0x00 ∷ zeros4 (0x00 ∷ 0x00 ∷ 0x00 ∷ 0x64 ∷ zeros8)) (0x00 ∷ [])
 
 abbrev frameB : List ℕ
-frameB = frameFrom (0x01 ∷ 0x00 ∷ 0x00 ∷ 0x00 ∷ 0xc8 ∷ replicate 7 0x00) (0x01 ∷ 0x00 ∷ 0x00 ∷ 0x00 ∷ 0x64 ∷ 0x00 ∷ [])
+frameB = frameFrom (0x01 ∷ zeros4 (0x00 ∷ 0x00 ∷ 0x00 ∷ 0xc8 ∷ replicate 7 0x00)) (0x01 ∷ zeros4 (0x00 ∷ 0x00 ∷ 0x00 ∷ 0x64 ∷ 0x00 ∷ []))
 
 abbrev pub frameC : Make → List ℕ
 frameC oldMake =
-    frameFrom (0x02 ∷ 0x00 ∷ 0x00 ∷ 0x01 ∷ 0x2c ∷ replicate 7 0x00)
-    (0x03 ∷ 0x00 ∷ 0x00 ∷ 0x00 ∷ 0x64 ∷ 0x00 ∷ 0x00 ∷ 0x00 ∷ 0xc8 ∷ 0x00 ∷ [])
-frameC newMake = frameFrom (0x02 ∷ 0x00 ∷ 0x00 ∷ 0x01 ∷ 0x2c ∷ replicate 7 0x00) (0x02 ∷ 0x00 ∷ 0x00 ∷ 0x00 ∷ 0xc8 ∷ 0x00 ∷ [])
+    frameFrom (0x02 ∷ zeros4 (0x00 ∷ 0x00 ∷ 0x01 ∷ 0x2c ∷ replicate 7 0x00))
+    (0x03 ∷ zeros4 (0x00 ∷ 0x00 ∷ 0x00 ∷ 0x64 ∷ zeros4 (0x00 ∷ 0x00 ∷ 0x00 ∷ 0xc8 ∷ 0x00 ∷ [])))
+frameC newMake = frameFrom (0x02 ∷ zeros4 (0x00 ∷ 0x00 ∷ 0x01 ∷ 0x2c ∷ replicate 7 0x00)) (0x02 ∷ zeros4 (0x00 ∷ 0x00 ∷ 0x00 ∷ 0xc8 ∷ 0x00 ∷ []))
 
 abbrev pub frameD : Make → List ℕ
 frameD oldMake =
-    frameFrom (0x03 ∷ 0x00 ∷ 0x00 ∷ 0x01 ∷ 0x90 ∷ replicate 7 0x00)
-    (0x07 ∷ 0x00 ∷ 0x00 ∷ 0x00 ∷ 0x64 ∷ 0x00 ∷ 0x00 ∷ 0x00 ∷ 0xc8 ∷ 0x00 ∷ 0x00 ∷ 0x01 ∷ 0x2c ∷ 0x00 ∷ [])
-frameD newMake = frameFrom (0x03 ∷ 0x00 ∷ 0x00 ∷ 0x01 ∷ 0x90 ∷ replicate 7 0x00) (0x04 ∷ 0x00 ∷ 0x00 ∷ 0x01 ∷ 0x2c ∷ 0x00 ∷ [])
+    frameFrom (0x03 ∷ zeros4 (0x00 ∷ 0x00 ∷ 0x01 ∷ 0x90 ∷ replicate 7 0x00))
+    (0x07 ∷ zeros4 (0x00 ∷ 0x00 ∷ 0x00 ∷ 0x64 ∷ zeros4 (0x00 ∷ 0x00 ∷ 0x00 ∷ 0xc8 ∷ zeros4 (0x00 ∷ 0x00 ∷ 0x01 ∷ 0x2c ∷ 0x00 ∷ []))))
+frameD newMake = frameFrom (0x03 ∷ zeros4 (0x00 ∷ 0x00 ∷ 0x01 ∷ 0x90 ∷ replicate 7 0x00)) (0x04 ∷ zeros4 (0x00 ∷ 0x00 ∷ 0x01 ∷ 0x2c ∷ 0x00 ∷ []))
 
 -- the barrier of panels 2 and 3 with A and B in their logs, and of panel 3 with C too
 abbrev barrierB : Make → List ℕ
@@ -39,13 +39,13 @@ barrierC oldMake = of ((0, 100) ∷ (1, 200) ∷ (2, 300) ∷ [])
 barrierC newMake = of ((2, 300) ∷ [])
 
 abbrev lineA : List ℕ
-lineA = logged (0 ∷ 0x00 ∷ 0x00 ∷ 0x00 ∷ 0x64 ∷ 0 ∷ [])
+lineA = logged (0 ∷ zeros4 (0x00 ∷ 0x00 ∷ 0x00 ∷ 0x64 ∷ 0 ∷ []))
 
 abbrev lineB : List ℕ
-lineB = logged (1 ∷ 0x00 ∷ 0x00 ∷ 0x00 ∷ 0xc8 ∷ 0 ∷ [])
+lineB = logged (1 ∷ zeros4 (0x00 ∷ 0x00 ∷ 0x00 ∷ 0xc8 ∷ 0 ∷ []))
 
 abbrev lineC : List ℕ
-lineC = logged (2 ∷ 0x00 ∷ 0x00 ∷ 0x01 ∷ 0x2c ∷ 0 ∷ [])
+lineC = logged (2 ∷ zeros4 (0x00 ∷ 0x00 ∷ 0x01 ∷ 0x2c ∷ 0 ∷ []))
 
 -- marks of A, of A and B, of A, B and C
 abbrev marksA : List ℕ
@@ -80,7 +80,7 @@ caseYardMixed make other =
     step (ofMake make (panelOf 3 0 100 marksA marksA [])) (receive frameB output) (taken panel3 (lineB ∷ []))
     ∷ step panel3 (receive (frameC other) output) (taken with3 (lineC ∷ []))
     ∷ step with3 (send [] 400 output buffer)
-    (sent (ofMake make (panelOf 3 0 400 after (of ((3, 400) ∷ [])) [])) (logged (3 ∷ 0x00 ∷ 0x00 ∷ 0x01 ∷ 0x90 ∷ 0 ∷ []) ∷ []) (frameD make))
+    (sent (ofMake make (panelOf 3 0 400 after (of ((3, 400) ∷ [])) [])) (logged (3 ∷ zeros4 (0x00 ∷ 0x00 ∷ 0x01 ∷ 0x90 ∷ 0 ∷ [])) ∷ []) (frameD make))
     ∷ []
 
 -- ---- Which entries are removed. Panel 3, at time 61, hears 200 of panel 1 with the entries 100 of panel 0, 100 of panel 4 and 60 of panel 5,
@@ -89,21 +89,21 @@ caseYardMixed make other =
 
 unfoldable pub caseRemoved : List Step
 caseRemoved =
-    let frame = frameFrom (0x01 ∷ 0x00 ∷ 0x00 ∷ 0x00 ∷ 0xc8 ∷ replicate 7 0x00)
-    (0x31 ∷ 0x00 ∷ 0x00 ∷ 0x00 ∷ 0x64 ∷ 0x00 ∷ 0x00 ∷ 0x00 ∷ 0x64 ∷ 0x00 ∷ 0x00 ∷ 0x00 ∷ 0x3c ∷ 0x00 ∷ []) in
-    let line = logged (1 ∷ 0x00 ∷ 0x00 ∷ 0x00 ∷ 0xc8 ∷ 0 ∷ []) in
+    let frame = frameFrom (0x01 ∷ zeros4 (0x00 ∷ 0x00 ∷ 0x00 ∷ 0xc8 ∷ replicate 7 0x00))
+    (0x31 ∷ zeros4 (0x00 ∷ 0x00 ∷ 0x00 ∷ 0x64 ∷ zeros4 (0x00 ∷ 0x00 ∷ 0x00 ∷ 0x64 ∷ zeros4 (0x00 ∷ 0x00 ∷ 0x00 ∷ 0x3c ∷ 0x00 ∷ [])))) in
+    let line = logged (1 ∷ zeros4 (0x00 ∷ 0x00 ∷ 0x00 ∷ 0xc8 ∷ 0 ∷ [])) in
     let had = of ((0, 100) ∷ (4, 101) ∷ (5, 50) ∷ (6, 70) ∷ []) in
     let has = of ((0, 100) ∷ (1, 200) ∷ (4, 101) ∷ (5, 50) ∷ (6, 70) ∷ []) in
     let left = of ((1, 200) ∷ (4, 101) ∷ (6, 70) ∷ []) in
     let less = of ((0, 100) ∷ (4, 99) ∷ (5, 50) ∷ (6, 70) ∷ []) in
     let waits : List Message = messageOf 1 200 (of ((0, 100) ∷ (4, 100) ∷ (5, 60) ∷ [])) [] ∷ [] in
-    let frame4 = frameFrom (0x04 ∷ 0x00 ∷ 0x00 ∷ 0x00 ∷ 0x65 ∷ zeros8) (0x00 ∷ []) in
+    let frame4 = frameFrom (0x04 ∷ zeros4 (0x00 ∷ 0x00 ∷ 0x00 ∷ 0x65 ∷ zeros8)) (0x00 ∷ []) in
     step (panelOf 3 61 101 had had []) (receive frame output) (taken (withFloor 60 (panelOf 3 61 200 has left [])) (line ∷ []))
     ∷ step (ofMake oldMake (panelOf 3 61 101 had had [])) (receive frame output) (taken (ofMake oldMake (withFloor 60 (panelOf 3 61 200 has has []))) (line ∷ []))
     ∷ step (panelOf 3 61 100 less less []) (receive frame output) (taken (panelOf 3 61 100 less less waits) [])
     ∷ step (panelOf 3 61 100 less less waits) (receive frame output) (refusedWith 22 (panelOf 3 61 100 less less waits) output [])
     ∷ step (panelOf 3 61 100 less less waits) (receive frame4 output)
-    (taken (withFloor 60 (panelOf 3 61 200 has left [])) (logged (4 ∷ 0x00 ∷ 0x00 ∷ 0x00 ∷ 0x65 ∷ 0 ∷ []) ∷ line ∷ []))
+    (taken (withFloor 60 (panelOf 3 61 200 has left [])) (logged (4 ∷ zeros4 (0x00 ∷ 0x00 ∷ 0x00 ∷ 0x65 ∷ 0 ∷ [])) ∷ line ∷ []))
     ∷ []
 
 -- ---- The entry of the message's own panel is removed, and its own goes in. Panel 3 has 200 of panel 1 in its log, and hears panel 1's next,
@@ -113,6 +113,6 @@ unfoldable pub caseOwn : List Step
 caseOwn =
     let only1 : ℕ → List ℕ = λ deadline. of ((1, deadline) ∷ []) in
     step (panelOf 3 0 200 (only1 200) (only1 200) [])
-    (receive (frameFrom (0x01 ∷ 0x00 ∷ 0x00 ∷ 0x01 ∷ 0x2c ∷ replicate 7 0x00) (0x02 ∷ 0x00 ∷ 0x00 ∷ 0x00 ∷ 0xc8 ∷ 0x00 ∷ [])) output)
-    (taken (panelOf 3 0 300 (only1 300) (only1 300) []) (logged (1 ∷ 0x00 ∷ 0x00 ∷ 0x01 ∷ 0x2c ∷ 0 ∷ []) ∷ []))
+    (receive (frameFrom (0x01 ∷ zeros4 (0x00 ∷ 0x00 ∷ 0x01 ∷ 0x2c ∷ replicate 7 0x00)) (0x02 ∷ zeros4 (0x00 ∷ 0x00 ∷ 0x00 ∷ 0xc8 ∷ 0x00 ∷ []))) output)
+    (taken (panelOf 3 0 300 (only1 300) (only1 300) []) (logged (1 ∷ zeros4 (0x00 ∷ 0x00 ∷ 0x01 ∷ 0x2c ∷ 0 ∷ [])) ∷ []))
     ∷ []

@@ -4,6 +4,7 @@ use mathlib.Core.Path.{_≡_}
 use mathlib.Core.List.{List, [], _∷_, _++_, map, flatten}
 use lib.ListN.{length, take, drop, set, replicate}
 use Rattle.frame.specs.Message.{Message}
+use Rattle.rules.specs.Sizes.{logRecordLength, outputLength, bufferLength}
 use Rattle.rules.specs.Panel.{newMake, Panel, none64}
 use Rattle.rules.specs.Results.{Call, Result, defined}
 
@@ -54,18 +55,26 @@ withFloor floor p =
 
 -- the buffers as they are lent
 abbrev pub output : List ℕ
-output = replicate 1254 7
+output = replicate outputLength 7
 
 abbrev pub buffer : List ℕ
-buffer = replicate 307 7
+buffer = replicate bufferLength 7
 
 -- a log record that begins with these bytes, zeros behind
 abbrev pub logged : List ℕ → List ℕ
-logged bytes = take 38 (bytes ++ replicate 38 0)
+logged bytes = take logRecordLength (bytes ++ replicate logRecordLength 0)
 
--- a frame: mark and version, then these bytes: those up to the last 00 of the mask, and those behind
+-- a frame of version 2: mark and version, then these bytes: those up to the last 00 of the mask, and those behind
 abbrev pub frameFrom : List ℕ → List ℕ → List ℕ
-frameFrom start rest = 0x44 ∷ 0x52 ∷ 0x59 ∷ 0x00 ∷ 0x01 ∷ (start ++ rest)
+frameFrom start rest = 0x44 ∷ 0x52 ∷ 0x59 ∷ 0x00 ∷ 0x02 ∷ (start ++ rest)
+
+-- a frame of version 1
+abbrev pub narrowFrom : List ℕ → List ℕ → List ℕ
+narrowFrom start rest = 0x44 ∷ 0x52 ∷ 0x59 ∷ 0x00 ∷ 0x01 ∷ (start ++ rest)
+
+-- the high half of a deadline or entry that 32 bits hold, and the bytes behind it
+abbrev pub zeros4 : List ℕ → List ℕ
+zeros4 rest = 0x00 ∷ 0x00 ∷ 0x00 ∷ 0x00 ∷ rest
 
 -- the mask of a frame without entries
 abbrev pub zeros8 : List ℕ
@@ -73,7 +82,7 @@ zeros8 = replicate 8 0x00
 
 -- the output with these log records
 abbrev pub outputWith : List (List ℕ) → List ℕ
-outputWith records = flatten records ++ drop (38 * length records) output
+outputWith records = flatten records ++ drop (logRecordLength * length records) output
 
 -- a send gave this record, these log records and this frame
 abbrev pub sent : Panel → List (List ℕ) → List ℕ → Result

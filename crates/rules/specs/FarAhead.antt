@@ -7,8 +7,8 @@ use mathlib.Core.List.{List}
 use lib.ListN.{getD}
 use Rattle.numbers.specs.Numbers.{Bytes}
 use Rattle.frame.specs.Message.{Message}
-use Rattle.frame.specs.Reading.{refusal, messageIn}
-use Rattle.rules.specs.Sizes.{width, lastDeadline}
+use Rattle.frame.specs.Reading.{refusalOf, messageFrom}
+use Rattle.rules.specs.Sizes.{lastDeadline}
 use Rattle.rules.specs.Panel.{Panel, lapsed}
 use Rattle.rules.specs.Refusals.{farthestAhead}
 use Rattle.rules.specs.Results.{Call, send, receive, clock, setBack, effectOf, defined}
@@ -17,10 +17,10 @@ use Rattle.rules.specs.Lists.{_isIn_}
 -- at any panel
 pub record FarAhead (p : Panel) : Type 0 where
   -- "A received deadline above time + 1,209,600 (14 days) is now refused": what is taken is at most that,
-  pub taken-near : (bytes output : List ℕ) → defined p (receive bytes output) .number ≡ 0 → messageIn width bytes .deadline ≤ p .time + farthestAhead
+  pub taken-near : (bytes output : List ℕ) → defined p (receive bytes output) .number ≡ 0 → messageFrom bytes .deadline ≤ p .time + farthestAhead
   -- and what is refused with 32 is a message above it.
   pub refused-far : (bytes output : List ℕ) → defined p (receive bytes output) .number ≡ 32
-      → (refusal width bytes ≡ 0) × (p .time + farthestAhead < messageIn width bytes .deadline)
+      → (refusalOf bytes ≡ 0) × (p .time + farthestAhead < messageFrom bytes .deadline)
   -- "Taken without wrapping": within 14 days of the last deadline nothing is refused with 32.
   pub never-late : (bytes output : List ℕ) → Bytes bytes → lastDeadline ≤ p .time + farthestAhead → defined p (receive bytes output) .number ≢ 32
   -- "A send may still pass that distance": neither a send nor a clock call is ever refused with 32, nor is the service call.

@@ -3,9 +3,10 @@ use Prim.Native.Nat.{ℕ}
 use mathlib.Core.List.{List, [], _∷_}
 use lib.ListN.{replicate}
 use Rattle.frame.specs.Message.{Message, messageOf}
+use Rattle.rules.specs.Sizes.{lastDeadline}
 use Rattle.rules.specs.Panel.{Panel, none64}
 use Rattle.rules.specs.Results.{send, receive, clock}
-use Rattle.rules.specs.Cases.{Step, step, of, panelOf, output, buffer, logged, frameFrom, zeros8, sent, taken, refusedWith}
+use Rattle.rules.specs.Cases.{Step, step, of, panelOf, output, buffer, logged, frameFrom, zeros4, zeros8, sent, taken, refusedWith}
 
 -- panel 0 with nothing in its log, at a time
 abbrev pub panel0At : ℕ → Panel
@@ -15,15 +16,15 @@ panel0At time = panelOf 0 time 0 none64 none64 []
 -- that in its log, and sends with lifetime 50: high forces 2,000,101. Panel 0 refuses both with 32 until its time is near enough.
 
 unfoldable pub farFrame1 : List ℕ
-farFrame1 = frameFrom (0x01 ∷ 0x00 ∷ 0x1e ∷ 0x84 ∷ 0xe4 ∷ zeros8) (0x00 ∷ [])
+farFrame1 = frameFrom (0x01 ∷ zeros4 (0x00 ∷ 0x1e ∷ 0x84 ∷ 0xe4 ∷ zeros8)) (0x00 ∷ [])
 
 unfoldable pub farFrame2 : List ℕ
-farFrame2 = frameFrom (0x02 ∷ 0x00 ∷ 0x1e ∷ 0x84 ∷ 0xe5 ∷ replicate 7 0x00) (0x02 ∷ 0x00 ∷ 0x1e ∷ 0x84 ∷ 0xe4 ∷ 0x00 ∷ [])
+farFrame2 = frameFrom (0x02 ∷ zeros4 (0x00 ∷ 0x1e ∷ 0x84 ∷ 0xe5 ∷ replicate 7 0x00)) (0x02 ∷ zeros4 (0x00 ∷ 0x1e ∷ 0x84 ∷ 0xe4 ∷ 0x00 ∷ []))
 
 unfoldable pub caseFarAhead : List Step
 caseFarAhead =
-    let line1 = logged (1 ∷ 0x00 ∷ 0x1e ∷ 0x84 ∷ 0xe4 ∷ 0 ∷ []) in
-    let line2 = logged (2 ∷ 0x00 ∷ 0x1e ∷ 0x84 ∷ 0xe5 ∷ 0 ∷ []) in
+    let line1 = logged (1 ∷ zeros4 (0x00 ∷ 0x1e ∷ 0x84 ∷ 0xe4 ∷ 0 ∷ [])) in
+    let line2 = logged (2 ∷ zeros4 (0x00 ∷ 0x1e ∷ 0x84 ∷ 0xe5 ∷ 0 ∷ [])) in
     let only1 = of ((1, 2000100) ∷ []) in
     let only2 = of ((2, 2000101) ∷ []) in
     let both = of ((1, 2000100) ∷ (2, 2000101) ∷ []) in
@@ -48,30 +49,30 @@ caseFarAheadStays =
     let only1 = of ((1, 2000100) ∷ []) in
     let all = of ((1, 2000100) ∷ (5, 2000100) ∷ (7, 800) ∷ []) in
     let waits : List Message = messageOf 5 2000100 (of ((7, 800) ∷ [])) [] ∷ [] in
-    let copy = frameFrom (0x05 ∷ 0x00 ∷ 0x1e ∷ 0x84 ∷ 0xe4 ∷ replicate 7 0x00) (0x80 ∷ 0x00 ∷ 0x00 ∷ 0x03 ∷ 0x20 ∷ 0x00 ∷ []) in
+    let copy = frameFrom (0x05 ∷ zeros4 (0x00 ∷ 0x1e ∷ 0x84 ∷ 0xe4 ∷ replicate 7 0x00)) (0x80 ∷ zeros4 (0x00 ∷ 0x00 ∷ 0x03 ∷ 0x20 ∷ 0x00 ∷ [])) in
     let panel = panelOf 0 500 2000100 only1 only1 waits in
     step panel (clock 600 output) (taken (panelOf 0 600 2000100 only1 only1 waits) [])
     ∷ step panel (send [] 50 output buffer)
     (sent (panelOf 0 500 2000101 (of ((0, 2000101) ∷ (1, 2000100) ∷ [])) (of ((0, 2000101) ∷ [])) waits)
-    (logged (0 ∷ 0x00 ∷ 0x1e ∷ 0x84 ∷ 0xe5 ∷ 0 ∷ []) ∷ [])
-    (frameFrom (0x00 ∷ 0x00 ∷ 0x1e ∷ 0x84 ∷ 0xe5 ∷ replicate 7 0x00) (0x02 ∷ 0x00 ∷ 0x1e ∷ 0x84 ∷ 0xe4 ∷ 0x00 ∷ [])))
+    (logged (0 ∷ zeros4 (0x00 ∷ 0x1e ∷ 0x84 ∷ 0xe5 ∷ 0 ∷ [])) ∷ [])
+    (frameFrom (0x00 ∷ zeros4 (0x00 ∷ 0x1e ∷ 0x84 ∷ 0xe5 ∷ replicate 7 0x00)) (0x02 ∷ zeros4 (0x00 ∷ 0x1e ∷ 0x84 ∷ 0xe4 ∷ 0x00 ∷ []))))
     ∷ step panel (receive farFrame1 output) (refusedWith 32 panel output [])  -- it is at most the mark too
     ∷ step panel (receive copy output) (refusedWith 32 panel output [])  -- it waits already too
-    ∷ step panel (receive (frameFrom (0x07 ∷ 0x00 ∷ 0x00 ∷ 0x03 ∷ 0x20 ∷ zeros8) (0x00 ∷ [])) output)
+    ∷ step panel (receive (frameFrom (0x07 ∷ zeros4 (0x00 ∷ 0x00 ∷ 0x03 ∷ 0x20 ∷ zeros8)) (0x00 ∷ [])) output)
     (taken (panelOf 0 500 2000100 all (of ((1, 2000100) ∷ (5, 2000100) ∷ [])) [])
-    (logged (7 ∷ 0x00 ∷ 0x00 ∷ 0x03 ∷ 0x20 ∷ 0 ∷ []) ∷ logged (5 ∷ 0x00 ∷ 0x1e ∷ 0x84 ∷ 0xe4 ∷ 0 ∷ []) ∷ []))
+    (logged (7 ∷ zeros4 (0x00 ∷ 0x00 ∷ 0x03 ∷ 0x20 ∷ 0 ∷ [])) ∷ logged (5 ∷ zeros4 (0x00 ∷ 0x1e ∷ 0x84 ∷ 0xe4 ∷ 0 ∷ [])) ∷ []))
     ∷ []
 
--- ---- the last deadline, 4,294,967,295, is 14 days after 4,293,757,695: from then on nothing is refused with 32
+-- ---- the last deadline, 18,446,744,073,709,551,615, is 14 days after 18,446,744,073,708,342,015: from then on nothing is refused with 32
 
 unfoldable pub caseLastDays : List Step
 caseLastDays =
-    let last = frameFrom (0x01 ∷ 0xff ∷ 0xff ∷ 0xff ∷ 0xff ∷ zeros8) (0x00 ∷ []) in
-    let line = logged (1 ∷ 0xff ∷ 0xff ∷ 0xff ∷ 0xff ∷ 0 ∷ []) in
-    let only1 = of ((1, 4294967295) ∷ []) in
-    let with1 : ℕ → Panel = λ time. panelOf 0 time 4294967295 only1 only1 [] in
-    step (panel0At 4293757694) (receive last output) (refusedWith 32 (panel0At 4293757694) output [])
-    ∷ step (panel0At 4293757695) (receive last output) (taken (with1 4293757695) (line ∷ []))
-    ∷ step (panel0At 4293757696) (receive last output) (taken (with1 4293757696) (line ∷ []))  -- in 32 bits the sum would be 0
-    ∷ step (panel0At 4294967295) (receive last output) (taken (with1 4294967295) (line ∷ []))
+    let last = frameFrom (0x01 ∷ 0xff ∷ 0xff ∷ 0xff ∷ 0xff ∷ 0xff ∷ 0xff ∷ 0xff ∷ 0xff ∷ zeros8) (0x00 ∷ []) in
+    let line = logged (1 ∷ 0xff ∷ 0xff ∷ 0xff ∷ 0xff ∷ 0xff ∷ 0xff ∷ 0xff ∷ 0xff ∷ 0 ∷ []) in
+    let only1 = of ((1, lastDeadline) ∷ []) in
+    let with1 : ℕ → Panel = λ time. panelOf 0 time lastDeadline only1 only1 [] in
+    step (panel0At 18446744073708342014) (receive last output) (refusedWith 32 (panel0At 18446744073708342014) output [])
+    ∷ step (panel0At 18446744073708342015) (receive last output) (taken (with1 18446744073708342015) (line ∷ []))
+    ∷ step (panel0At 18446744073708342016) (receive last output) (taken (with1 18446744073708342016) (line ∷ []))  -- in 64 bits the sum would be 0
+    ∷ step (panel0At lastDeadline) (receive last output) (taken (with1 lastDeadline) (line ∷ []))
     ∷ []

@@ -63,11 +63,11 @@ hand p m =
       make = p .make;
     }
 
--- A log record has 38 bytes:
+-- A log record has 42 bytes:
 unfoldable pub logRecord : Message → List ℕ
 logRecord m =
     bigEndian 1 (m .source)  -- source 1,
-    ++ bigEndian width (m .deadline)  -- deadline 4,
+    ++ bigEndian width (m .deadline)  -- deadline 8,
     ++ bigEndian 1 (length (m .payload))  -- length 1,
     ++ m .payload  -- payload 32
     ++ replicate (32 - length (m .payload)) 0  -- with zeros after its end

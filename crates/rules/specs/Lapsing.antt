@@ -5,8 +5,7 @@ use mathlib.Core.Logic.{_⊎_}
 use mathlib.Core.Bool.{Bool, false, cond, not, _&&_, _||_}
 use mathlib.Core.List.{List, [], _∷_, _++_, map}
 use lib.Dec.{eqb}
-use Rattle.frame.specs.Reading.{messageIn}
-use Rattle.rules.specs.Sizes.{width}
+use Rattle.frame.specs.Reading.{messageFrom}
 use Rattle.rules.specs.Panel.{Name, hasLapsed}
 use Rattle.rules.specs.Handing.{missed}
 use Rattle.rules.specs.Results.{Call, send, receive, clock, setBack, Result}
@@ -21,7 +20,7 @@ sameName x y = eqb (x .source) (y .source) && eqb (x .deadline) (y .deadline)
 -- from the frames sent: the entries of a message are those of the frame that carries it
 unfoldable pub entriesSent : List Sent → Name → List ℕ
 entriesSent [] n = []
-entriesSent (s ∷ sent) n = cond (sameName (nameIn (s .frame)) n) (messageIn width (s .frame) .entries) (entriesSent sent n)
+entriesSent (s ∷ sent) n = cond (sameName (nameIn (s .frame)) n) (messageFrom (s .frame) .entries) (entriesSent sent n)
 
 -- from the log: the mark of a panel is the largest deadline from that source; 0 means none
 unfoldable pub markIn : List Name → ℕ → ℕ

@@ -23,4 +23,5 @@ pub mod Cases
 pub mod FarAheadCases
 pub mod BarrierCases
 pub mod FloorCases
+pub mod VersionCases
 pub mod BenchCases

@@ -7,7 +7,7 @@ use mathlib.Core.List.{List, [], _∷_, _++_, map, List·Memᴰ}
 use lib.ListN.{take, drop}
 use lib.Dec.{eqb}
 use Rattle.numbers.specs.Numbers.{Bytes, numberAt}
-use Rattle.frame.specs.Reading.{messageIn}
+use Rattle.frame.specs.Reading.{messageFrom, readingOf}
 use Rattle.rules.specs.Sizes.{width, logRecordLength}
 use Rattle.rules.specs.Panel.{Name, nameOf, Make, Panel, fresh, ofMake}
 use Rattle.rules.specs.Results.{Call, send, receive, clock, setBack, Result, Promised}
@@ -63,7 +63,7 @@ framesTaken (setBack reading) result = []
 
 -- the message of a frame: its source and deadline
 abbrev pub nameIn : List ℕ → Name
-nameIn frame = nameOf (messageIn width frame)
+nameIn frame = nameOf (messageFrom frame)
 
 -- Sent at a panel: a send there was not refused; its message is the source and deadline of the frame that it wrote.
 unfoldable pub sentAt : ℕ → List Made → List Name
@@ -118,11 +118,17 @@ pub data Before (sent : List Sent) : Name → Name → Type 0 where
 
 -- ---- the lists that demand 3 speaks of
 
--- A frame received has the very bytes of a frame that an earlier call of the list sent, at whatever panel; or its call is refused, with
+-- The bytes carry the message of a frame that was sent: they are that frame, or the frame of version 1 that reads as the same message. (Document 02,
+-- W-208: "Version 1 is still read, with the same values". So a farm is covered whose panels are changed over one by one: those that still write
+-- version 1 send the same messages.)
+abbrev pub CarriesSent : List Sent → List ℕ → Type 0
+CarriesSent sent bytes = (s : Sent) × (s isIn sent) × (readingOf bytes ≡ readingOf (s .frame))
+
+-- A frame received carries the message of a frame that an earlier call of the list sent, at whatever panel; or its call is refused, with
 -- whatever number. A payload to send is bytes.
 unfoldable pub Given : List Sent → Call → Result → Type 0
 Given sent (send payload lifetime output buffer) result = Bytes payload
-Given sent (receive bytes output) result = ((s : Sent) × (s isIn sent) × (s .frame ≡ bytes)) ⊎ (result .number ≢ 0)
+Given sent (receive bytes output) result = CarriesSent sent bytes ⊎ (result .number ≢ 0)
 Given sent (clock time output) result = Unit {0}
 Given sent (setBack reading) result = Unit {0}
 

@@ -8,7 +8,7 @@ use lib.ListN.{length, getD}
 use lib.Dec.{leb, ltb, eqb}
 use Rattle.frame.specs.Message.{Message}
 use Rattle.frame.specs.Refusal.{firstOf}
-use Rattle.frame.specs.Reading.{checks, messageIn}
+use Rattle.frame.specs.Reading.{checks, widthIn, messageFrom}
 use Rattle.frame.specs.Readable.{eachBelow, readable}
 use Rattle.rules.specs.Sizes.{width, lastDeadline, outputLength, bufferLength}
 use Rattle.rules.specs.Panel.{Panel, fresh, lapsed, ready}
@@ -67,9 +67,9 @@ freshRecord own = cond (ltb 63 own) (fresh 0) (fresh own)
 unfoldable pub sendChecks : Panel → List ℕ → ℕ → List ℕ → List ℕ → List (Bool × ℕ)
 sendChecks p payload lifetime output buffer =
     (broken p, 26)
-    ∷ (ltb (length output) outputLength || ltb (length buffer) bufferLength, 10)  -- output under 1,254 bytes, or the frame buffer under 307
+    ∷ (ltb (length output) outputLength || ltb (length buffer) bufferLength, 10)  -- output under 1,386 bytes, or the frame buffer under 567
     ∷ (ltb 32 (length payload), 9)  -- payload to send longer than 32
-    ∷ (ltb lastDeadline (sendDeadline p lifetime), 24)  -- the deadline of a send would pass 4,294,967,295
+    ∷ (ltb lastDeadline (sendDeadline p lifetime), 24)  -- the deadline of a send would pass 18,446,744,073,709,551,615
     ∷ []
 
 -- those of a message that was read: 20, 21, 32, 22, 23
@@ -85,7 +85,7 @@ messageChecks p m =
 -- Receive: 26, 10, 1 to 8, 20, 21, 32, 22, 23
 unfoldable pub receiveChecks : Panel → List ℕ → List ℕ → List (Bool × ℕ)
 receiveChecks p bytes output =
-    (broken p, 26) ∷ (ltb (length output) outputLength, 10) ∷ (checks width bytes ++ messageChecks p (messageIn width bytes))
+    (broken p, 26) ∷ (ltb (length output) outputLength, 10) ∷ (checks (widthIn bytes) bytes ++ messageChecks p (messageFrom bytes))
 
 -- Clock: 26, 10, 25
 unfoldable pub clockChecks : Panel → ℕ → List ℕ → List (Bool × ℕ)

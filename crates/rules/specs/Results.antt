@@ -7,7 +7,7 @@ use lib.ListN.{length}
 use Rattle.numbers.specs.Buffer.{over}
 use Rattle.frame.specs.Frame.{frame}
 use Rattle.frame.specs.Refusal.{firstOf}
-use Rattle.frame.specs.Reading.{messageIn}
+use Rattle.frame.specs.Reading.{messageFrom}
 use Rattle.rules.specs.Sizes.{width}
 use Rattle.rules.specs.Panel.{Panel}
 use Rattle.rules.specs.Handing.{logRecords}
@@ -47,7 +47,7 @@ checksOf p (setBack reading) = setBackChecks p
 -- what it does to the record, and which messages it hands
 abbrev pub effectOf : Panel → Call → Settled
 effectOf p (send payload lifetime output buffer) = sending p payload lifetime
-effectOf p (receive bytes output) = receiving p (messageIn width bytes)
+effectOf p (receive bytes output) = receiving p (messageFrom bytes)
 effectOf p (clock time output) = clocking p time
 effectOf p (setBack reading) = settingBack p reading
 

@@ -4,6 +4,7 @@ use mathlib.Core.List.{List, [], _∷_, append-nil}
 use Prim.Native.Nat.{ℕ, _≤_, max}
 use native.Mathlib.Omega.{arith}
 use lib.ListN.{length, getD, length-append}
+use lib.Dec.{ltb}
 use Rattle.numbers.specs.Numbers.{Bytes}
 use Rattle.numbers.specs.Buffer.{over}
 use Rattle.frame.specs.Message.{Message}
@@ -16,7 +17,7 @@ use Rattle.frame.proofs.Places.{frame-passed, frame-message}
 use Rattle.frame.proofs.Theorems.{frame-size}
 use Rattle.writing.specs.Written.{written, writtenLength}
 use Rattle.writing.proofs.Written.{written-frame}
-use Rattle.rules.specs.Sizes.{width}
+use Rattle.rules.specs.Sizes.{width, lastDeadline}
 use Rattle.rules.specs.Panel.{Panel as Record, none64}
 use Rattle.rules.specs.Handing.{raise, shortened, barrierFor, missed, hand, logRecord, logRecords}
 use Rattle.rules.specs.Settling.{withWaiting, settle}
@@ -33,7 +34,7 @@ use Rattle.parts.proofs.Answering.{afterwards, settled-promised}
 use Rattle.sending.specs.Checks.{sendChecksOn}
 
 pub sendChecks-on : (p : Record) (payload : List ℕ) (lifetime : ℕ) (output buffer : List ℕ)
-    → sendChecksOn (broken p) (length output) (length buffer) (length payload) (sendDeadline p lifetime) ≡ sendChecks p payload lifetime output buffer
+    → sendChecksOn (broken p) (length output) (length buffer) (length payload) (ltb lastDeadline (sendDeadline p lifetime)) ≡ sendChecks p payload lifetime output buffer
 unfolding sendChecks
 sendChecks-on p payload lifetime output buffer = refl
 
@@ -58,7 +59,7 @@ module _ {p : Parts} {payload : List ℕ} {lifetime : ℕ} {output buffer : List
   readable = new-readable given payload lifetime output buffer checked (P .panels) (P .bytes)
 
   pub frame-fits : length (frame width new) ≤ length buffer
-  frame-fits = omega (arith, checked .buffer-room, frame-size new (readable-true width new readable) .1)
+  frame-fits = omega (arith, checked .buffer-room, frame-size width new (readable-true width new readable) .1)
 
   -- ---- its frame is written
 
@@ -69,7 +70,7 @@ module _ {p : Parts} {payload : List ℕ} {lifetime : ℕ} {output buffer : List
   buffer-written = sym (written-frame width new buffer (readable-true width new readable) frame-fits .1)
 
   pub frame-reads : Reads (frame width new)
-  frame-reads = passed-zero width (frame width new) (frame-passed width new (omega arith, omega arith) readable)
+  frame-reads = passed-zero width (frame width new) (frame-passed width new (omega arith) readable)
 
   -- ---- it is handed with an empty barrier, and the record settles
 
@@ -90,7 +91,7 @@ module _ {p : Parts} {payload : List ℕ} {lifetime : ℕ} {output buffer : List
       → stage (record { own = p .own; time = p .time; high = high; waiting = p .count; handed = 1; floor = floor }) places marks′ barrier′ output′
       ≡ handedStage
   stage-handed part is high floor places marks′ barrier′ output′ e ep em eb eo ef =
-      let message : messageIn width part ≡ new = ap (messageIn width) is ∙ frame-message width new (omega arith, omega arith) readable in
+      let message : messageIn width part ≡ new = ap (messageIn width) is ∙ frame-message width new (omega arith) readable in
       rw (e, ep, em, eb, eo, ef, message)
 
   panel-handed : Kept (p .slots) (p .count) → panelAt (p .slots) handedStage ≡ hand (emptied given) new

@@ -3,12 +3,12 @@ use Prim.Native.Nat.{ℕ}
 use mathlib.Core.Bool.{Bool, _||_}
 use mathlib.Core.List.{List, [], _∷_}
 use lib.Dec.{ltb}
-use Rattle.rules.specs.Sizes.{lastDeadline, outputLength, bufferLength}
+use Rattle.rules.specs.Sizes.{outputLength, bufferLength}
 
-abbrev pub sendChecksOn : Bool → ℕ → ℕ → ℕ → ℕ → List (Bool × ℕ)
-sendChecksOn broken output buffer payload deadline =
+abbrev pub sendChecksOn : Bool → ℕ → ℕ → ℕ → Bool → List (Bool × ℕ)
+sendChecksOn broken output buffer payload passes =
     (broken, 26)
     ∷ (ltb output outputLength || ltb buffer bufferLength, 10)
     ∷ (ltb 32 payload, 9)
-    ∷ (ltb lastDeadline deadline, 24)
+    ∷ (passes, 24)
     ∷ []

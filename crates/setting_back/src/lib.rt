@@ -3,6 +3,7 @@
 // touch the time alone. It accepts any input. A crate and an archive of its own: the object of
 // the other calls is not longer by it.
 use parts::broken;
+use slots::SLOTS;
 ghost use mathlib.Core.List.{[]};
 ghost use Rattle.rules.specs.Results.{setBack};
 ghost use Rattle.parts.specs.Record.{parts, PromisedInPlace};
@@ -13,14 +14,14 @@ ghost use Rattle.setting_back.specs.Answer.{answerOf};
 #[no_mangle]
 pub extern "C" fn panel_set_back_parts<'a>(
     own: u8,
-    time: &mut u32,
-    high: u32,
+    time: &mut u64,
+    high: u64,
     count: usize,
-    marks: &'a [u32; 64],
-    barrier: &'a [u32; 64],
-    slots: &'a [u8; 9888],
-    floor: u32,
-    reading: u32,
+    marks: &'a [u64; 64],
+    barrier: &'a [u64; 64],
+    slots: &'a [u8; SLOTS],
+    floor: u64,
+    reading: u64,
 ) -> u8
     ensures { λ r. ⌜ PromisedInPlace
         (parts own (now (time .entry)) high count (now (marks .entry)) (now (barrier .entry)) (now (slots .entry)) floor)

@@ -7,6 +7,7 @@ use slots::kept_frame;
 ghost use mathlib.Core.Path.{_≡_};
 ghost use Prim.Native.Nat.{_+_, _*_, _≤_, _<_};
 ghost use lib.ListN.{length, getD};
+ghost use Rattle.rules.specs.Sizes.{logRecordLength};
 ghost use Rattle.slots.specs.Slots.{Slots, Listed};
 ghost use Rattle.settling.specs.Record.{Leaves, left, stage, Settles};
 
@@ -15,11 +16,11 @@ ghost use Rattle.settling.specs.Record.{Leaves, left, stage, Settles};
 #[repr(C)]
 pub struct Settling {
     pub own: u8,
-    pub time: u32,
-    pub high: u32,
+    pub time: u64,
+    pub high: u64,
     pub waiting: usize,
     pub handed: usize,
-    pub floor: u32,
+    pub floor: u64,
 }
 
 // The slot at that place leaves the list, and is the answer; those behind it move up.
@@ -42,19 +43,19 @@ fn leave(places: &mut [u8; 32], waiting: usize, place: usize) -> u8
 // (Only numbers and references are passed, so that the compiler makes a loop of it.)
 pub fn settle(
     own: u8,
-    time: u32,
-    high: &mut u32,
+    time: u64,
+    high: &mut u64,
     waiting: usize,
     handed: &mut usize,
-    floor: &mut u32,
+    floor: &mut u64,
     places: &mut [u8; 32],
-    marks: &mut [u32; 64],
-    barrier: &mut [u32; 64],
+    marks: &mut [u64; 64],
+    barrier: &mut [u64; 64],
     slots: &[u8],
     output: &mut [u8],
 ) -> usize
     requires { ⌜ Slots (now slots) × Listed (now slots) waiting (now places) × (length (now places) ≡ 32) ⌝ }
-    requires { ⌜ (now handed + waiting) * 38 ≤ length (now output) ⌝ }
+    requires { ⌜ (now handed + waiting) * logRecordLength ≤ length (now output) ⌝ }
     ensures { λ r. ⌜ Settles (now (slots .entry))
         (stage (left own time (now (high .entry)) waiting (now (handed .entry)) (now (floor .entry))) (now (places .entry)) (now (marks .entry)) (now (barrier .entry)) (now (output .entry)))
         (stage (left own time (now (high .exit)) r (now (handed .exit)) (now (floor .exit))) (now (places .exit)) (now (marks .exit)) (now (barrier .exit)) (now (output .exit))) ⌝ }

@@ -12,6 +12,7 @@ use lib.Count.{onesIn}
 use borrow.Author.Tests.{eq-eqb, ne-eqb, eqb-true, eqb-false}
 use Rattle.numbers.specs.Numbers.{Bytes, numberAt, numbersAt}
 use Rattle.numbers.proofs.NumberAt.{numberAt-add, numberAt-lt}
+use Rattle.frame.specs.Frame.{mark, versionOf}
 use Rattle.frame.specs.Reading.{countIn, entriesIn, lengthIn, eachEarlier}
 use Rattle.frame.proofs.Passed.{Passed, zero-passed, passed-zero}
 use Rattle.rules.specs.Sizes.{width, bufferLength}
@@ -43,20 +44,20 @@ module _ (bs : List ℕ) (n : ℕ) (room : 2 + n ≤ length bs) where
 -- ---- what the numbers of a slot say
 
 abbrev pub deadlineOf : List ℕ → ℕ
-deadlineOf bs = numberAt bs 8 4
+deadlineOf bs = numberAt bs 8 width
 
 abbrev pub countOf : List ℕ → ℕ
-countOf bs = onesIn 64 (numberAt bs 12 8)
+countOf bs = onesIn 64 (numberAt bs (8 + width) 8)
 
 abbrev pub payloadOf : List ℕ → ℕ
-payloadOf bs = numberAt bs (20 + 4 * countOf bs) 1
+payloadOf bs = numberAt bs (16 + width + width * countOf bs) 1
 
 pub record Holds (bs : List ℕ) : Type 0 where
-  pub head : numberAt bs 0 8 % 281474976710656 / 64 ≡ 1173757362180
+  pub head : numberAt bs 0 8 % 281474976710656 / 64 ≡ (mark * 65536 + versionOf width) * 4
   pub deadline : deadlineOf bs ≡ 0 → ⊥
-  pub entries : eachEarlier (deadlineOf bs) (numbersAt bs 20 4 (countOf bs)) ≡ true
+  pub entries : eachEarlier (deadlineOf bs) (numbersAt bs (16 + width) width (countOf bs)) ≡ true
   pub payload : payloadOf bs ≤ 32
-  pub whole : numberAt bs 0 8 / 281474976710656 + 1 ≡ 20 + 4 * countOf bs + payloadOf bs
+  pub whole : numberAt bs 0 8 / 281474976710656 + 1 ≡ 16 + width + width * countOf bs + payloadOf bs
 
 module _ (bs : List ℕ) (bytes : Bytes bs) (long : slotLength ≤ length bs) where
   -- the first eight bytes, and how large each of their numbers is
@@ -73,7 +74,7 @@ module _ (bs : List ℕ) (bytes : Bytes bs) (long : slotLength ≤ length bs) wh
   lengthOf = omega (arith, apart, small)
 
   few : countOf bs ≤ 64
-  few = onesIn-le 64 (numberAt bs 12 8)
+  few = onesIn-le 64 (numberAt bs (8 + width) 8)
 
   -- the frame, where its length leaves it in the slot
   module _ (n : ℕ) (fits : n ≤ bufferLength) where
@@ -90,24 +91,24 @@ module _ (bs : List ℕ) (bytes : Bytes bs) (long : slotLength ≤ length bs) wh
     same : (at many : ℕ) → at + many ≤ n → numberAt inside at many ≡ numberAt bs (2 + at) many
     same at many le = numberAt-framed bs n room at many le
 
-    count-same : 19 ≤ n → countIn width inside ≡ countOf bs
-    count-same le = ap (onesIn 64) (same 10 8 (omega arith))
+    count-same : 15 + width ≤ n → countIn width inside ≡ countOf bs
+    count-same le = ap (onesIn 64) (same (6 + width) 8 (omega arith))
 
-    entries-same : 19 + 4 * countOf bs ≤ n → entriesIn width inside ≡ numbersAt bs 20 4 (countOf bs)
-    entries-same le = ap (numbersAt inside 18 4) (count-same (omega arith)) ∙ numbersAt-framed bs n room 18 4 (countOf bs) (omega arith)
+    entries-same : 15 + width + width * countOf bs ≤ n → entriesIn width inside ≡ numbersAt bs (16 + width) width (countOf bs)
+    entries-same le = ap (numbersAt inside (14 + width) width) (count-same (omega arith)) ∙ numbersAt-framed bs n room (14 + width) width (countOf bs) (omega arith)
 
-    payload-same : 19 + 4 * countOf bs ≤ n → lengthIn width inside ≡ payloadOf bs
+    payload-same : 15 + width + width * countOf bs ≤ n → lengthIn width inside ≡ payloadOf bs
     payload-same le =
-        let place : 2 + (18 + 4 * countOf bs) ≡ 20 + 4 * countOf bs = omega arith in
-        ap (λ (count : ℕ). numberAt inside (18 + 4 * count) 1) (count-same (omega arith))
-        ∙ same (18 + 4 * countOf bs) 1 (omega arith)
+        let place : 2 + (14 + width + width * countOf bs) ≡ 16 + width + width * countOf bs = omega arith in
+        ap (λ (count : ℕ). numberAt inside (14 + width + width * count) 1) (count-same (omega arith))
+        ∙ same (14 + width + width * countOf bs) 1 (omega arith)
         ∙ ap (λ (at : ℕ). numberAt bs at 1) place
 
-    holds-passed : Holds bs → n + 1 ≡ 20 + 4 * countOf bs + payloadOf bs → Passed width inside
+    holds-passed : Holds bs → n + 1 ≡ 16 + width + width * countOf bs + payloadOf bs → Passed width inside
     holds-passed h size =
-        let some : 19 + 4 * countOf bs ≤ n = omega arith in
+        let some : 15 + width + width * countOf bs ≤ n = omega arith in
         let count = count-same (omega arith) in
-        let due = same 6 4 (omega arith) in
+        let due = same 6 width (omega arith) in
         let l = length-inside in
         record {
           long = omega arith;
@@ -124,10 +125,10 @@ module _ (bs : List ℕ) (bytes : Bytes bs) (long : slotLength ≤ length bs) wh
     passed-holds : numberAt bs 0 2 ≡ n → Passed width inside → Holds bs
     passed-holds e p =
         let l = length-inside in
-        let long′ : 19 ≤ n = omega (arith, p .long) in
+        let long′ : 15 + width ≤ n = omega (arith, p .room) in
         let count = count-same long′ in
-        let some : 19 + 4 * countOf bs ≤ n = omega (arith, p .room, count) in
-        let due = same 6 4 (omega arith) in
+        let some : 15 + width + width * countOf bs ≤ n = omega (arith, p .room, count) in
+        let due = same 6 width (omega arith) in
         record {
           head = omega (
             arith,
@@ -148,7 +149,7 @@ module _ (bs : List ℕ) (bytes : Bytes bs) (long : slotLength ≤ length bs) wh
 
   pub holds-reads : Holds bs → Reads (framed bs)
   holds-reads h =
-      let size : numberAt bs 0 2 + 1 ≡ 20 + 4 * countOf bs + payloadOf bs = omega (arith, lengthOf, h .whole) in
+      let size : numberAt bs 0 2 + 1 ≡ 16 + width + width * countOf bs + payloadOf bs = omega (arith, lengthOf, h .whole) in
       let fits : numberAt bs 0 2 ≤ bufferLength = omega (arith, few, h .payload) in
       rw (framed-short bs fits) (passed-zero width _ (holds-passed (numberAt bs 0 2) fits h size))
 

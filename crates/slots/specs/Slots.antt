@@ -1,5 +1,5 @@
--- The waiting list as it lies in a panel's record: 32 slots of 309 bytes, each with the length of a frame in 16 bits and then the frame, as in
--- a bundle. What stands in a slot behind its frame is no part of the record.
+-- The waiting list as it lies in a panel's record: 32 slots of 569 bytes, each with the length of a frame in 16 bits and then the frame, of version 2,
+-- as in a bundle. What stands in a slot behind its frame is no part of the record.
 use Prim.Native.Nat.{ℕ, zero, suc, _*_, _≤_, _<_}
 use mathlib.Core.Path.{_≡_}
 use mathlib.Core.Bool.{cond}
@@ -13,11 +13,11 @@ use Rattle.rules.specs.Sizes.{width, bufferLength}
 
 -- a slot: 16 bits, and room for the longest frame
 abbrev pub slotLength : ℕ
-slotLength = 309
+slotLength = 569
 
 -- 32 of them
 abbrev pub slotsLength : ℕ
-slotsLength = 9888
+slotsLength = 18208
 
 -- the frame at the start of bytes that begin with its length: none where that is above the longest frame's
 unfoldable pub framed : List ℕ → List ℕ

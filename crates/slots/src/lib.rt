@@ -1,17 +1,27 @@
 // The waiting list as it lies in a panel's record, and what is read there: 32 slots, each with the
-// length of a frame in 16 bits and then the frame. An internal crate. Precondition: slots that
+// length of a frame in 16 bits and then the frame, of version 2. An internal crate. Precondition: slots that
 // hold readable frames; the calls of a panel refuse any other record.
+use frame::BUFFER;
+use frame::DEADLINE_AT;
+use frame::WIDTH;
 use numbers::number_at;
 ghost use mathlib.Core.Path.{_≡_};
 ghost use mathlib.Core.Bool.{_&&_};
 ghost use Prim.Native.Nat.{_<_};
 ghost use lib.Dec.{eqb};
 ghost use Rattle.frame.specs.Reading.{messageIn};
+ghost use Rattle.rules.specs.Sizes.{width};
 ghost use Rattle.rules.specs.Panel.{hasLapsed};
 ghost use Rattle.rules.specs.Refusals.{isWaiting as waits};
 ghost use Rattle.slots.specs.Slots.{Reads, Slots, Fits, Kept, firstSlots, held};
 ghost use Rattle.slots.specs.Slots.{frameAt as frameIn};
 ghost use Rattle.slots.specs.Alive.{Alive};
+
+// The bytes of a slot: a length, and room for the longest frame.
+pub const SLOT: usize = 2 + BUFFER;
+
+// The bytes of all slots.
+pub const SLOTS: usize = 32 * SLOT;
 
 // Slots, so many of them, in order.
 pub struct Places {
@@ -24,7 +34,7 @@ pub fn kept_frame(slots: &[u8], slot: usize) -> &[u8]
     requires { ⌜ Slots (now slots) × (slot < 32) × Fits (now slots) slot ⌝ }
     ensures { λ r. ⌜ now r ≡ frameIn (now (slots .entry)) slot ⌝ }
 {
-    let at = slot * 309;
+    let at = slot * SLOT;
     let length = number_at(slots, at, 2) as usize;
     let start = at + 2;
     let end = start + length;
@@ -34,22 +44,22 @@ pub fn kept_frame(slots: &[u8], slot: usize) -> &[u8]
 // The source and the deadline of a readable frame.
 pub fn source(frame: &[u8]) -> u8
     requires { ⌜ Reads (now frame) ⌝ }
-    ensures { λ r. ⌜ r ≡ messageIn 4 (now (frame .entry)) .source ⌝ }
+    ensures { λ r. ⌜ r ≡ messageIn width (now (frame .entry)) .source ⌝ }
 {
     frame[5]
 }
 
-pub fn deadline(frame: &[u8]) -> u32
+pub fn deadline(frame: &[u8]) -> u64
     requires { ⌜ Reads (now frame) ⌝ }
-    ensures { λ r. ⌜ r ≡ messageIn 4 (now (frame .entry)) .deadline ⌝ }
+    ensures { λ r. ⌜ r ≡ messageIn width (now (frame .entry)) .deadline ⌝ }
 {
-    number_at(frame, 6, 4) as u32
+    number_at(frame, DEADLINE_AT, WIDTH)
 }
 
 // Whether the message of a readable frame has that source and deadline.
-fn is_named(frame: &[u8], panel: u8, due: u32) -> bool
+fn is_named(frame: &[u8], panel: u8, due: u64) -> bool
     requires { ⌜ Reads (now frame) ⌝ }
-    ensures { λ r. ⌜ r ≡ (eqb panel (messageIn 4 (now (frame .entry)) .source) && eqb due (messageIn 4 (now (frame .entry)) .deadline)) ⌝ }
+    ensures { λ r. ⌜ r ≡ (eqb panel (messageIn width (now (frame .entry)) .source) && eqb due (messageIn width (now (frame .entry)) .deadline)) ⌝ }
 {
     if panel != source(frame) {
         return false;
@@ -60,7 +70,7 @@ fn is_named(frame: &[u8], panel: u8, due: u32) -> bool
 // Whether a message of the frame's source and deadline waits in the first slots.
 pub fn is_waiting<'a, 'b>(frame: &'a [u8], slots: &'b [u8], count: usize) -> bool
     requires { ⌜ Reads (now frame) × Slots (now slots) × Kept (now slots) count ⌝ }
-    ensures { λ r. ⌜ r ≡ waits (messageIn 4 (now (frame .entry))) (held (now (slots .entry)) (firstSlots count)) ⌝ }
+    ensures { λ r. ⌜ r ≡ waits (messageIn width (now (frame .entry))) (held (now (slots .entry)) (firstSlots count)) ⌝ }
 {
     let panel = source(frame);
     let due = deadline(frame);
@@ -75,8 +85,8 @@ pub fn is_waiting<'a, 'b>(frame: &'a [u8], slots: &'b [u8], count: usize) -> boo
 }
 
 // Whether a deadline has lapsed at a panel of that time and floor: it is below the time, or at most the
-// floor. (Not below floor + 1: that sum could pass 32 bits.)
-pub fn has_lapsed(due: u32, time: u32, floor: u32) -> bool
+// floor. (Not below floor + 1: that sum could pass 64 bits.)
+pub fn has_lapsed(due: u64, time: u64, floor: u64) -> bool
     ensures { λ r. ⌜ r ≡ hasLapsed time floor due ⌝ }
 {
     if due < time {
@@ -86,7 +96,7 @@ pub fn has_lapsed(due: u32, time: u32, floor: u32) -> bool
 }
 
 // Those of the first slots whose messages have not lapsed at that time and floor.
-pub fn alive(slots: &[u8], count: usize, time: u32, floor: u32) -> Places
+pub fn alive(slots: &[u8], count: usize, time: u64, floor: u64) -> Places
     requires { ⌜ Slots (now slots) × Kept (now slots) count ⌝ }
     ensures { λ r. ⌜ Alive (now (slots .entry)) count time floor r ⌝ }
 {

@@ -2,6 +2,7 @@
 // the panel, the number of the answer, and the counts of log records and of waiting messages. An
 // internal crate.
 use panel::Panel;
+use parts::OUTPUT;
 use tracing::Trace;
 
 pub fn print(text: &[u8]) {
@@ -43,7 +44,7 @@ fn print_trace(shown: Trace) {
 // A trace of a frame, and then its receive.
 pub fn receive(p: Panel, frame: &[u8]) -> Panel {
     print_trace(panel::panel_trace(p, frame));
-    let mut output = [0u8; 1254];
+    let mut output = [0u8; OUTPUT];
     let answer = by_value::panel_receive(p, frame, &mut output);
     let panel = answer.panel;
     print_answer(
@@ -57,8 +58,8 @@ pub fn receive(p: Panel, frame: &[u8]) -> Panel {
     panel
 }
 
-pub fn clock(p: Panel, time: u32) -> Panel {
-    let mut output = [0u8; 1254];
+pub fn clock(p: Panel, time: u64) -> Panel {
+    let mut output = [0u8; OUTPUT];
     let answer = by_value::panel_clock(p, time, &mut output);
     let panel = answer.panel;
     print_answer(
@@ -74,7 +75,7 @@ pub fn clock(p: Panel, time: u32) -> Panel {
 }
 
 // The time after it, and the floor, which it leaves.
-pub fn set_back(p: Panel, reading: u32) -> Panel {
+pub fn set_back(p: Panel, reading: u64) -> Panel {
     let answer = by_value::panel_set_back(p, reading);
     let panel = answer.panel;
     print_answer(
@@ -91,6 +92,6 @@ pub fn set_back(p: Panel, reading: u32) -> Panel {
 }
 
 // A fresh panel whose clock shows a time.
-pub fn at(own: u8, time: u32) -> Panel {
+pub fn at(own: u8, time: u64) -> Panel {
     clock(fresh(own), time)
 }

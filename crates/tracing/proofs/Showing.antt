@@ -6,14 +6,12 @@ use mathlib.Core.List.{List, [], _∷_}
 use lib.ListN.{length}
 use Rattle.frame.specs.Message.{Message}
 use Rattle.frame.specs.Refusal.{firstOf}
-use Rattle.frame.specs.Reading.{checks, refusal, messageIn}
+use Rattle.frame.specs.Reading.{widthIn, checks, refusalOf, messageFrom}
 use Rattle.frame.proofs.FirstOf.{eachNumber, firstOf-left, firstOf-right}
 use Rattle.frame.proofs.Passed.{reading-zero, reading-refused}
-use Rattle.rules.specs.Sizes.{width}
 use Rattle.rules.specs.Panel.{Panel, lapsed, met, ready}
 use Rattle.rules.specs.Refusals.{broken, messageChecks}
 use Rattle.visits.specs.Visiting.{Entry, entriesOf, isMet, upToUnmet, visits, traceChecks, trace}
-use Rattle.slots.specs.Slots.{Reads}
 use Rattle.choosing.specs.Choice.{asking}
 use Rattle.checking.proofs.MessageChecks.{ready-asking}
 
@@ -34,33 +32,33 @@ module _ (p : Panel) (bytes : List ℕ) where
   unfolding traceChecks firstOf
   number-broken e = rw e
 
-  pub number-unread : (isBroken : Bool) (check : ℕ) → isBroken ≡ broken p → check ≡ refusal width bytes → (check ≡ 0 → ⊥)
+  pub number-unread : (isBroken : Bool) (check : ℕ) → isBroken ≡ broken p → check ≡ refusalOf bytes → (check ≡ 0 → ⊥)
       → cond isBroken 26 check ≡ firstOf (traceChecks p bytes)
   unfolding traceChecks firstOf
   number-unread isBroken check e c unread =
-      rw (e, c) (ap (cond (broken p) 26) (sym (firstOf-left (checks width bytes) (messageChecks p (messageIn width bytes)) (λ none. unread (c ∙ none)))))
+      rw (e, c) (ap (cond (broken p) 26) (sym (firstOf-left (checks (widthIn bytes) bytes) (messageChecks p (messageFrom bytes)) (λ none. unread (c ∙ none)))))
 
-  pub number-read : broken p ≡ false → Reads bytes → firstOf (messageChecks p (messageIn width bytes)) ≡ firstOf (traceChecks p bytes)
+  pub number-read : broken p ≡ false → refusalOf bytes ≡ 0 → firstOf (messageChecks p (messageFrom bytes)) ≡ firstOf (traceChecks p bytes)
   unfolding traceChecks firstOf checks eachNumber
-  number-read e reads = rw e (sym (firstOf-right (checks width bytes) (messageChecks p (messageIn width bytes)) refl reads))
+  number-read e reads = rw e (sym (firstOf-right (checks (widthIn bytes) bytes) (messageChecks p (messageFrom bytes)) refl reads))
 
   -- ---- what is shown, with that number
 
   module _ (number : ℕ) (first : number ≡ firstOf (traceChecks p bytes)) where
     -- the bytes read as no message
-    pub shown-unread : (refusal width bytes ≡ 0 → ⊥) → record { number = number; ready = false; visited = 0 } ≡ trace p bytes
+    pub shown-unread : (refusalOf bytes ≡ 0 → ⊥) → record { number = number; ready = false; visited = 0 } ≡ trace p bytes
     unfolding trace
-    shown-unread unread = rw (reading-refused width bytes unread, first)
+    shown-unread unread = rw (reading-refused (widthIn bytes) bytes unread, first)
 
     -- they read, and their message was tested
-    pub shown-read : Reads bytes → (isReady : Bool) (visited : ℕ) → let asked = asking (p .marks) (p .time) (p .floor) in
-        isReady ≡ ready asked (messageIn width bytes) → visited ≡ visits asked (messageIn width bytes)
+    pub shown-read : refusalOf bytes ≡ 0 → (isReady : Bool) (visited : ℕ) → let asked = asking (p .marks) (p .time) (p .floor) in
+        isReady ≡ ready asked (messageFrom bytes) → visited ≡ visits asked (messageFrom bytes)
         → record { number = number; ready = isReady; visited = visited } ≡ trace p bytes
     unfolding trace
     shown-read reads isReady visited e counted =
         rw (
-          reading-zero width bytes reads,
+          reading-zero (widthIn bytes) bytes reads,
           first,
-          e ∙ ready-asking p (messageIn width bytes),
-          counted ∙ visits-asking p (messageIn width bytes),
+          e ∙ ready-asking p (messageFrom bytes),
+          counted ∙ visits-asking p (messageFrom bytes),
         )

@@ -3,12 +3,18 @@
 // stays as short as it is where nobody asks for the visits.
 use checking::message_number;
 use choosing::ready;
+use frame::BUFFER;
 use frame::frame_check;
+use frame::is_narrow;
 use parts::broken;
+use slots::SLOTS;
+use widening::first;
+use widening::widen;
 ghost use mathlib.Core.Path.{_≡_};
 ghost use mathlib.Core.Bool.{cond};
 ghost use Rattle.visits.specs.Visiting.{trace};
 ghost use Rattle.parts.specs.Record.{parts, recordOf};
+ghost use Rattle.checking.specs.Checks.{NotNarrow};
 ghost use Rattle.tracing.specs.Shown.{shownIn};
 
 // What is shown of a frame: the number that a receive of it with an output long enough would be refused
@@ -31,19 +37,19 @@ fn unread_number(broken: bool, number: u8) -> u8
     number
 }
 
-// A frame is looked at, and nothing is changed.
-#[no_mangle]
-pub extern "C" fn panel_trace_parts<'a, 'b>(
+// A frame is looked at that does not read in version 1.
+fn trace_wide<'a, 'b>(
     own: u8,
-    time: u32,
-    high: u32,
+    time: u64,
+    high: u64,
     count: usize,
-    marks: &'a [u32; 64],
-    barrier: &'a [u32; 64],
-    slots: &'a [u8; 9888],
-    floor: u32,
+    marks: &'a [u64; 64],
+    barrier: &'a [u64; 64],
+    slots: &'a [u8; SLOTS],
+    floor: u64,
     frame: &'b [u8],
 ) -> Trace
+    requires { ⌜ NotNarrow (now frame) ⌝ }
     ensures { λ r. ⌜ shownIn r ≡ trace
         (recordOf (parts own time high count (now (marks .entry)) (now (barrier .entry)) (now (slots .entry)) floor))
         (now (frame .entry)) ⌝ }
@@ -70,4 +76,39 @@ pub extern "C" fn panel_trace_parts<'a, 'b>(
         ready: tested.ready,
         number: message_number(own, time, count, marks, slots, floor, frame),
     }
+}
+
+// A frame is looked at, and nothing is changed. One of version 1 is widened first.
+#[no_mangle]
+pub extern "C" fn panel_trace_parts<'a, 'b>(
+    own: u8,
+    time: u64,
+    high: u64,
+    count: usize,
+    marks: &'a [u64; 64],
+    barrier: &'a [u64; 64],
+    slots: &'a [u8; SLOTS],
+    floor: u64,
+    frame: &'b [u8],
+) -> Trace
+    ensures { λ r. ⌜ shownIn r ≡ trace
+        (recordOf (parts own time high count (now (marks .entry)) (now (barrier .entry)) (now (slots .entry)) floor))
+        (now (frame .entry)) ⌝ }
+{
+    if is_narrow(frame) {
+        let mut wide = [0u8; BUFFER];
+        let length = widen(frame, &mut wide);
+        return trace_wide(
+            own,
+            time,
+            high,
+            count,
+            marks,
+            barrier,
+            slots,
+            floor,
+            first(&wide, length),
+        );
+    }
+    trace_wide(own, time, high, count, marks, barrier, slots, floor, frame)
 }

@@ -1,7 +1,7 @@
 -- What a trace tells of the receive of the same frame on the same record. Assumes nothing.
 use Prim.Native.Nat.{ℕ, _≤_}
-use mathlib.Core.Path.{_≡_, refl, sym, ap, _∙_}
-use mathlib.Core.Bool.{true, false, _||_, true≢false}
+use mathlib.Core.Path.{_≡_, refl, sym, ap, ap₂, _∙_}
+use mathlib.Core.Bool.{true, false, cond, _||_, true≢false}
 use mathlib.Core.Logic.{⊎-elim}
 use mathlib.Core.Option.{Option, none, some}
 use mathlib.Core.List.{List, [], _∷_, _++_}
@@ -10,10 +10,10 @@ use lib.Dec.{eqb}
 use borrow.Author.Tests.{le-ltb}
 use Rattle.frame.specs.Message.{Message, messageOf}
 use Rattle.frame.specs.Refusal.{firstOf}
-use Rattle.frame.specs.Reading.{Reading, message, refused, checks, refusal, messageIn, reading}
-use Rattle.frame.proofs.FirstOf.{eachNumber, firstOf-append}
+use Rattle.frame.specs.Reading.{Reading, message, refused, checks, widthIn, refusalOf, messageFrom, readingOf}
+use Rattle.frame.proofs.FirstOf.{eachNumber, firstOf-append, firstOf-right}
 use Rattle.frame.proofs.Passed.{reading-message, reading-zero}
-use Rattle.rules.specs.Sizes.{width, outputLength}
+use Rattle.rules.specs.Sizes.{outputLength}
 use Rattle.rules.specs.Panel.{Panel, ready}
 use Rattle.rules.specs.Handing.{hand}
 use Rattle.rules.specs.Settling.{choice, withWaiting, Settled, goOn, settle}
@@ -38,7 +38,7 @@ shown-number p number (refused n) = refl
 
 pub trace-first : (p : Panel) (bytes : List ℕ) → trace p bytes .number ≡ firstOf (traceChecks p bytes)
 unfolding trace
-trace-first p bytes = shown-number p (firstOf (traceChecks p bytes)) (reading width bytes)
+trace-first p bytes = shown-number p (firstOf (traceChecks p bytes)) (readingOf bytes)
 
 module _ (p : Panel) (bytes output : List ℕ) (room : outputLength ≤ length output) where
   -- where the output is long enough, its check passes
@@ -58,6 +58,20 @@ trace-checks-listed p bytes = refl
 pub trace-listed : (p : Panel) (bytes : List ℕ) → Listed (trace p bytes .number)
 trace-listed p bytes = rw (trace-first p bytes) (listed (traceChecks p bytes) (trace-checks-listed p bytes))
 
+-- ---- two frames that carry the same message are shown alike
+
+module _ (p : Panel) where
+  number-read : (bytes : List ℕ) → refusalOf bytes ≡ 0 → firstOf (traceChecks p bytes) ≡ cond (broken p) 26 (firstOf (messageChecks p (messageFrom bytes)))
+  unfolding traceChecks firstOf checks eachNumber
+  number-read bytes e = ap (λ (n : ℕ). cond (broken p) 26 n) (firstOf-right (checks (widthIn bytes) bytes) (messageChecks p (messageFrom bytes)) refl e)
+
+  pub trace-alike : (one other : List ℕ) → refusalOf one ≡ 0 → refusalOf other ≡ 0 → messageFrom one ≡ messageFrom other → trace p one ≡ trace p other
+  unfolding trace
+  trace-alike one other reads readsToo same =
+      let number = number-read one reads ∙ ap (λ (m : Message). cond (broken p) 26 (firstOf (messageChecks p m))) same ∙ sym (number-read other readsToo) in
+      let reading = reading-zero (widthIn one) one reads ∙ ap message same ∙ sym (reading-zero (widthIn other) other readsToo) in
+      ap₂ (shown p) number reading
+
 -- ---- ready
 
 -- what is shown to be ready reads as a message that is
@@ -71,21 +85,21 @@ receiving-ready p m e = rw e
 
 -- Ready: a receive that is not refused hands the message, before any other.
 pub trace-handed : (p : Panel) (bytes : List ℕ) → trace p bytes .ready ≡ true
-    → (later : List Message) × (receiving p (messageIn width bytes) .handed ≡ messageIn width bytes ∷ later)
+    → (later : List Message) × (receiving p (messageFrom bytes) .handed ≡ messageFrom bytes ∷ later)
 unfolding trace
 trace-handed p bytes e =
-    let (m, read, is) = shown-ready p (firstOf (traceChecks p bytes)) (reading width bytes) e in
-    let same : messageIn width bytes ≡ m = reading-message width bytes m read .1 in
-    (settle (hand p (messageIn width bytes)) .handed, receiving-ready p (messageIn width bytes) (ap (ready p) same ∙ is))
+    let (m, read, is) = shown-ready p (firstOf (traceChecks p bytes)) (readingOf bytes) e in
+    let same : messageFrom bytes ≡ m = reading-message (widthIn bytes) bytes m read .1 in
+    (settle (hand p (messageFrom bytes)) .handed, receiving-ready p (messageFrom bytes) (ap (ready p) same ∙ is))
 
 -- ---- not ready
 
 -- the bytes read, where no check applies
-trace-reads : (p : Panel) (bytes : List ℕ) → trace p bytes .number ≡ 0 → refusal width bytes ≡ 0
+trace-reads : (p : Panel) (bytes : List ℕ) → trace p bytes .number ≡ 0 → refusalOf bytes ≡ 0
 unfolding traceChecks checks eachNumber
 trace-reads p bytes e =
-    let (front, behind) = firstOf-append ((broken p, 26) ∷ checks width bytes) (messageChecks p (messageIn width bytes)) refl (sym (trace-first p bytes) ∙ e) in
-    firstOf-append ((broken p, 26) ∷ []) (checks width bytes) refl front .1
+    let (front, behind) = firstOf-append ((broken p, 26) ∷ checks (widthIn bytes) bytes) (messageChecks p (messageFrom bytes)) refl (sym (trace-first p bytes) ∙ e) in
+    firstOf-append ((broken p, 26) ∷ []) (checks (widthIn bytes) bytes) refl front .1
 
 -- settling hands nothing where nothing that waits is ready
 settle-still : (p : Panel) → NoneReady p → settle p .handed ≡ []
@@ -109,14 +123,14 @@ receiving-unready p m unready e = rw e (settle-still (withWaiting p (p .waiting 
 
 -- Not ready, and no refusal: where nothing that waits is ready, the receive hands nothing, and the message waits.
 pub trace-waits : (p : Panel) (bytes : List ℕ) → NoneReady p → trace p bytes .number ≡ 0 → trace p bytes .ready ≡ false
-    → receiving p (messageIn width bytes) .handed ≡ []
+    → receiving p (messageFrom bytes) .handed ≡ []
 unfolding trace
 trace-waits p bytes unready passed e =
-    receiving-unready p (messageIn width bytes) unready (rw (reading-zero width bytes (trace-reads p bytes passed)) at e)
+    receiving-unready p (messageFrom bytes) unready (rw (reading-zero (widthIn bytes) bytes (trace-reads p bytes passed)) at e)
 
 -- At a record reached by a list, a message that a trace shows not to be ready, and that is not refused, waits: its receive hands nothing.
 pub trace-waits-reached : (list : List Made) → Lawful list → AllPromised list → (panel : ℕ) (bytes : List ℕ)
     → let p = recordAt panel list in
-    trace p bytes .number ≡ 0 → trace p bytes .ready ≡ false → receiving p (messageIn width bytes) .handed ≡ []
+    trace p bytes .number ≡ 0 → trace p bytes .ready ≡ false → receiving p (messageFrom bytes) .handed ≡ []
 trace-waits-reached list lawful promised panel bytes =
     trace-waits (recordAt panel list) bytes (list-sound list lawful promised .sites panel .settled)

@@ -5,7 +5,7 @@ use mathlib.Core.Bool.{Bool, true, false}
 use mathlib.Core.List.{List, [], _∷_, map}
 use lib.ListN.{take, drop, replicate}
 use Rattle.rules.specs.Panel.{Panel, none64, fresh}
-use Rattle.rules.specs.Cases.{of, panelOf, frameFrom}
+use Rattle.rules.specs.Cases.{of, panelOf, frameFrom, zeros4}
 use Rattle.rules.specs.FarAheadCases.{farFrame1, farFrame2}
 use Rattle.rules.specs.BenchCases.{frame1, frame2, queue}
 use Rattle.visits.specs.Visiting.{Trace, trace}
@@ -29,8 +29,8 @@ look panel bytes number ready visited =
 
 unfoldable pub caseTrace : List Look
 caseTrace =
-    let after = frameFrom (0x05 ∷ 0x00 ∷ 0x00 ∷ 0x03 ∷ 0x84 ∷ replicate 6 0x00)
-    (0x02 ∷ 0x88 ∷ 0x00 ∷ 0x00 ∷ 0x03 ∷ 0x20 ∷ 0x00 ∷ 0x00 ∷ 0x03 ∷ 0x20 ∷ 0x00 ∷ 0x00 ∷ 0x03 ∷ 0x20 ∷ 0x00 ∷ []) in
+    let after = frameFrom (0x05 ∷ zeros4 (0x00 ∷ 0x00 ∷ 0x03 ∷ 0x84 ∷ replicate 6 0x00))
+    (0x02 ∷ 0x88 ∷ zeros4 (0x00 ∷ 0x00 ∷ 0x03 ∷ 0x20 ∷ zeros4 (0x00 ∷ 0x00 ∷ 0x03 ∷ 0x20 ∷ zeros4 (0x00 ∷ 0x00 ∷ 0x03 ∷ 0x20 ∷ 0x00 ∷ [])))) in
     let of6 = frameFrom (0x06 ∷ []) (drop 6 after) in
     let had : List (ℕ × ℕ) → Panel = λ marks. panelOf 0 0 900 (of marks) none64 [] in
     let all : List (ℕ × ℕ) = (3, 800) ∷ (7, 800) ∷ (9, 800) ∷ [] in

@@ -8,8 +8,7 @@ use lib.ListN.{length}
 use lib.Count.{onesIn}
 use Rattle.frame.specs.Message.{Message, maskOf}
 use Rattle.frame.specs.Refusal.{firstOf}
-use Rattle.frame.specs.Reading.{Reading, message, refused, checks, messageIn, reading}
-use Rattle.rules.specs.Sizes.{width}
+use Rattle.frame.specs.Reading.{Reading, message, refused, checks, widthIn, messageFrom, readingOf}
 use Rattle.rules.specs.Panel.{Panel, met, ready}
 use Rattle.rules.specs.Refusals.{broken, messageChecks}
 
@@ -72,7 +71,7 @@ pub record Counted (p : Panel) (m : Message) : Type 0 where
 
 -- the checks of a receive but that of its output: 26, 1 to 8, 20, 21, 32, 22, 23
 unfoldable pub traceChecks : Panel → List ℕ → List (Bool × ℕ)
-traceChecks p bytes = (broken p, 26) ∷ (checks width bytes ++ messageChecks p (messageIn width bytes))
+traceChecks p bytes = (broken p, 26) ∷ (checks (widthIn bytes) bytes ++ messageChecks p (messageFrom bytes))
 
 -- what is shown: the number that a receive with an output long enough would be refused with, or 0; whether the message is ready; how many
 -- entries were visited
@@ -87,4 +86,4 @@ shown p number (message m) = record { number = number; ready = ready p m; visite
 shown p number (refused n) = record { number = number; ready = false; visited = 0 }
 
 unfoldable pub trace : Panel → List ℕ → Trace
-trace p bytes = shown p (firstOf (traceChecks p bytes)) (reading width bytes)
+trace p bytes = shown p (firstOf (traceChecks p bytes)) (readingOf bytes)

@@ -3,7 +3,7 @@ use mathlib.Core.Path.{ap, _∙_}
 use mathlib.Core.List.{List}
 use Prim.Native.Nat.{ℕ}
 use borrow.Author.Needs.{needs}
-use Rattle.frame.specs.Reading.{reading}
+use Rattle.frame.specs.Reading.{readingOf}
 use Rattle.frame.specs.Answer.{fieldsOf}
 use Rattle.bundle.proofs.read_at.Statement.{statement}
 use Rattle.bundle.proofs.read_at.Tie as tie
@@ -15,7 +15,7 @@ read-requires : tie.Need-read-requires
 read-requires c κs = search needs
 
 returns : tie.Need-returns
-returns c = c .read .ensures ∙ ap (λ (bs : List ℕ). fieldsOf (reading 4 bs)) (c .before .part-at .ensures .bytes)
+returns c = c .read .ensures ∙ ap (λ (bs : List ℕ). fieldsOf (readingOf bs)) (c .before .part-at .ensures .bytes)
 
 pub read-at-spec : {M : Type 1} → statement M
 read-at-spec = tie.close (tie.spec part-at-requires read-requires returns)

@@ -11,6 +11,7 @@ use Rattle.frame.specs.Message.{Message}
 use Rattle.frame.specs.Reading.{messageIn}
 use Rattle.frame.proofs.FirstOf.{Past}
 use Rattle.frame.proofs.Passed.{zero-passed}
+use Rattle.rules.specs.Sizes.{width}
 use Rattle.rules.specs.Panel.{hasLapsed}
 use Rattle.rules.proofs.Missed.{hasLapsed-false}
 use Rattle.checking.proofs.MessageChecks.{table, number-own, past-own, number-lapsed, past-lapsed, number-far, past-far, number-reached, number-waiting, number-none}
@@ -22,7 +23,7 @@ start c = c .before .before .before .before
 
 -- the message
 abbrev m : tie.After-deadline → Message
-m c = messageIn 4 (now (start c .args .frame))
+m c = messageIn width (now (start c .args .frame))
 
 -- its source, its deadline, and the mark of its source
 from : (c : tie.After-deadline) → c .before .source .result ≡ m c .source
@@ -79,7 +80,7 @@ mul-mark c = search needs
 element-copy-out-mark : tie.Need-element-copy-out-mark
 unfolding messageIn
 element-copy-out-mark c =
-    omega (arith, from c, zero-passed 4 (now (start c .args .frame)) (start c .pre .0) .source)
+    omega (arith, from c, zero-passed width (now (start c .args .frame)) (start c .pre .0) .source)
 
 has-lapsed-requires : tie.Need-has-lapsed-requires
 has-lapsed-requires c κs = tt

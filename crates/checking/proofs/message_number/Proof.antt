@@ -5,6 +5,7 @@ use borrow.Author.Needs.{needs}
 use denote.Ref.{now}
 use Rattle.frame.specs.Message.{Message}
 use Rattle.frame.specs.Reading.{messageIn}
+use Rattle.rules.specs.Sizes.{width}
 use Rattle.rules.specs.Panel.{Panel}
 use Rattle.slots.proofs.Held.{length-firstSlots}
 use Rattle.parts.specs.Record.{parts, recordOf}
@@ -22,7 +23,7 @@ abbrev given : tie.After-early-number → Panel
 given c = let a = start c .args in recordOf (parts (a .own) (a .time) 0 (a .count) (now (a .marks)) [] (now (a .slots)) (a .floor))
 
 abbrev m : tie.After-early-number → Message
-m c = messageIn 4 (now (start c .args .frame))
+m c = messageIn width (now (start c .args .frame))
 
 early-number-requires : tie.Need-early-number-requires
 early-number-requires c κs = search needs

@@ -5,6 +5,7 @@ use native.Mathlib.Omega.{arith}
 use borrow.Author.Needs.{needs}
 use denote.Ref.{now}
 use Rattle.frame.specs.Reading.{messageIn}
+use Rattle.rules.specs.Sizes.{width}
 use Rattle.rules.specs.Panel.{ready}
 use Rattle.choosing.specs.Choice.{asking}
 use Rattle.checking.proofs.MessageChecks.{full-room, full-ready, full-unready}
@@ -13,7 +14,7 @@ use Rattle.checking.proofs.place_number.Tie as tie
 
 -- whether the message is ready
 abbrev isReady : tie.Start → Bool
-isReady c = ready (asking (now (c .args .marks)) (c .args .time) (c .args .floor)) (messageIn 4 (now (c .args .frame)))
+isReady c = ready (asking (now (c .args .marks)) (c .args .time) (c .args .floor)) (messageIn width (now (c .args .frame)))
 
 returns : tie.Need-returns
 returns c = let s = c .before .before in full-room (s .args .count) (isReady s) (omega (arith, c .if1 .taken))

@@ -4,14 +4,15 @@ use mathlib.Core.Bool.{Bool}
 use borrow.Author.Needs.{needs}
 use denote.Ref.{now}
 use lib.ListN.{length}
+use Rattle.frame.specs.Message.{Message}
 use Rattle.frame.specs.Refusal.{firstOf}
 use Rattle.rules.specs.Panel.{Panel as Record}
-use Rattle.rules.specs.Refusals.{broken}
+use Rattle.rules.specs.Refusals.{broken, messageChecks}
 use Rattle.parts.specs.Record.{Parts, parts, recordOf}
 use Rattle.parts.proofs.Answering.{valid-kept}
 use Rattle.checking.specs.Checks.{frameChecksOn}
 use Rattle.checking.proofs.MessageChecks.{checks-asking}
-use Rattle.checking.proofs.Checking.{frame-refused, frame-through, through-reads, through-valid}
+use Rattle.checking.proofs.Checking.{wide-reads, wide-message, frame-refused, frame-through, through-reads, through-valid}
 use Rattle.checking.proofs.receive_number.Statement.{statement}
 use Rattle.checking.proofs.receive_number.Tie as tie
 
@@ -49,14 +50,22 @@ message-number-requires c κs =
     let at = c .before in
     let a = start at .args in
     let through = sym (framed at) ∙ c .if1 .left in (
-      through-reads (given at) (now (a .frame)) (now (a .output)) through,
+      wide-reads (now (a .frame)) (start at .pre .1) (through-reads (given at) (now (a .frame)) (now (a .output)) through),
       search needs,
       valid-kept (lent at) (through-valid (given at) (now (a .frame)) (now (a .output)) through),
     )
 
 returns-2 : tie.Need-returns-2
 returns-2 c =
-    c .message-number .ensures ∙ ap firstOf (checks-asking _ _ _ _ _ _ _ _ _) ∙ frame-through _ _ _ (sym (framed (c .before .before)) ∙ c .before .if1 .left)
+    let at = c .before .before in
+    let bytes = now (start at .args .frame) in
+    let output = now (start at .args .output) in
+    let through = sym (framed at) ∙ c .before .if1 .left in
+    c .message-number .ensures
+    ∙ ap firstOf (checks-asking _ _ _ _ _ _ _ _ _)
+    ∙ ap (λ (m : Message). firstOf (messageChecks (given at) m))
+    (sym (wide-message bytes (start at .pre .1) (through-reads (given at) bytes output through)))
+    ∙ frame-through (given at) bytes output through
 
 pub receive-number-spec : {M : Type 1} → statement M
 receive-number-spec = tie.close (tie.spec broken-requires frame-number-requires returns message-number-requires returns-2)

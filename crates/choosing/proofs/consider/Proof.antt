@@ -6,6 +6,7 @@ use borrow.Author.Needs.{needs}
 use borrow.Author.Tests.{not-true, not-false}
 use Rattle.frame.specs.Message.{Message}
 use Rattle.frame.specs.Reading.{messageIn}
+use Rattle.rules.specs.Sizes.{width}
 use Rattle.rules.specs.Panel.{ready}
 use Rattle.slots.proofs.Framed.{reads-fits}
 use Rattle.slots.specs.Slots.{Reads, frameAt}
@@ -19,7 +20,7 @@ abbrev start : tie.After-kept-frame → tie.Start
 start c = c .before .before
 
 abbrev m : tie.Start → Message
-m c = messageIn 4 (frameAt (c .args .slots .now) (c .args .slot))
+m c = messageIn width (frameAt (c .args .slots .now) (c .args .slot))
 
 reads : (c : tie.After-kept-frame) → Reads (c .kept-frame .result .now)
 reads c = rw (c .kept-frame .ensures) (start c .pre .2)

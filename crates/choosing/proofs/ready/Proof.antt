@@ -11,6 +11,7 @@ use lib.ListN.{length, getD}
 use lib.Bits.{and-le-r}
 use Rattle.numbers.specs.Numbers.{numberAt}
 use Rattle.frame.proofs.Passed.{zero-passed}
+use Rattle.rules.specs.Sizes.{width}
 use Rattle.slots.proofs.SetBits.{next}
 use Rattle.slots.proofs.Walk.{turn-lt, turn-room}
 use Rattle.choosing.proofs.ready.Proof.Turns.{MetBelow, metBy, met-start, end-ready, end-visits, stop-ready, stop-visits, turn-on}
@@ -24,7 +25,7 @@ abbrev μ-loop : tie.MeasureT-loop
 μ-loop frame marks time floor bits₀ visited₀ bits visited = bits
 
 number-at-requires : tie.Need-number-at-requires Inv-loop μ-loop
-number-at-requires c κs = omega (arith, zero-passed 4 _ (c .before .pre) .long)
+number-at-requires c κs = omega (arith, zero-passed width _ (c .before .pre) .room)
 
 loop-holds : tie.Need-loop-holds Inv-loop μ-loop
 loop-holds c =
@@ -37,7 +38,7 @@ loop-holds c =
 below : (c : tie.In-loop Inv-loop μ-loop) → next (c .before .loop .bits) < 64
 below c = turn-lt (c .before .loop .inv .walk) (c .loop-test .taken)
 
-room : (c : tie.In-loop Inv-loop μ-loop) → 18 + 4 * c .before .loop .visited + 4 ≤ length (now (c .before .before .before .before .args .frame))
+room : (c : tie.In-loop Inv-loop μ-loop) → 14 + width + width * c .before .loop .visited + width ≤ length (now (c .before .before .before .before .args .frame))
 room c = turn-room (c .before .loop .inv .walk) (c .loop-test .taken) (c .before .before .before .before .pre)
 
 cast-panel : tie.Need-cast-panel Inv-loop μ-loop
@@ -51,9 +52,6 @@ add-number-at c = search (needs, room c)
 
 number-at-requires-2 : tie.Need-number-at-requires-2 Inv-loop μ-loop
 number-at-requires-2 c κs = omega (arith, room c)
-
-cast-entry : tie.Need-cast-entry Inv-loop μ-loop
-cast-entry c = search needs
 
 add-with-this : tie.Need-add-with-this Inv-loop μ-loop
 add-with-this c = search (needs, room (c .before))
@@ -70,7 +68,7 @@ is-met-requires c κs = tt
 -- the entry was read from its place, and tested beside the mark of its panel
 tested : (c : tie.After-is-met Inv-loop μ-loop) → let l = c .before .before .before .before .loop in
     let a = c .before .before .before .before .before .before .before .args in
-    metBy (getD (now (a .marks)) (next (l .bits)) 0) (a .time) (a .floor) (numberAt (now (a .frame)) (18 + 4 * l .visited) 4) ≡ c .is-met .result
+    metBy (getD (now (a .marks)) (next (l .bits)) 0) (a .time) (a .floor) (numberAt (now (a .frame)) (14 + width + width * l .visited) width) ≡ c .is-met .result
 tested c = rw (← c .before .before .number-at2 .ensures .0) (sym (c .is-met .ensures))
 
 returns : tie.Need-returns Inv-loop μ-loop
@@ -113,7 +111,6 @@ ready-spec =
     mul-number-at
     add-number-at
     number-at-requires-2
-    cast-entry
     add-with-this
     mul-is-met
     element-copy-out-is-met

@@ -7,24 +7,35 @@ use native.Mathlib.Omega.{arith}
 use Rattle.numbers.specs.Numbers.{numbersAt}
 use Rattle.frame.specs.Reading.{eachEarlier}
 use Rattle.frame.proofs.EachNumber.{eachEarlier-none, eachEarlier-outside, eachEarlier-next}
+use Rattle.frame.proofs.Widths.{mul-next}
 use Rattle.frame.proofs.each_earlier.Statement.{statement}
 use Rattle.frame.proofs.each_earlier.Tie as tie
 
 abbrev Inv-loop : tie.InvT-loop
-Inv-loop frame count deadline limit at₀ left₀ at left =
-    (at + 4 * left ≤ length frame) × (eachEarlier deadline (numbersAt frame 18 4 count) ≡ eachEarlier deadline (numbersAt frame at 4 left))
+Inv-loop frame width count deadline limit at₀ left₀ at left =
+    (at + width * left ≤ length frame)
+    × (eachEarlier deadline (numbersAt frame (14 + width) width count) ≡ eachEarlier deadline (numbersAt frame at width left))
 
 abbrev μ-loop : tie.MeasureT-loop
-μ-loop frame count deadline limit at₀ left₀ at left = left
+μ-loop frame width count deadline limit at₀ left₀ at left = left
+
+-- the entry at hand, and those behind it
+next : (c : tie.In-loop Inv-loop μ-loop)
+    → c .before .before .before .args .width * c .before .loop .left
+    ≡ c .before .before .before .args .width * (c .before .loop .left - 1) + c .before .before .before .args .width
+next c = mul-next (c .before .before .before .args .width) (c .before .loop .left) (c .loop-test .taken)
 
 sub-limit : tie.Need-sub-limit Inv-loop μ-loop
 sub-limit c = search needs
 
+add-at : tie.Need-add-at Inv-loop μ-loop
+add-at c = search needs
+
 loop-holds : tie.Need-loop-holds Inv-loop μ-loop
 loop-holds c = (search needs, refl)
 
-number-at-requires : tie.Need-number-at-requires Inv-loop μ-loop
-number-at-requires c κs = omega arith
+entry-at-requires : tie.Need-entry-at-requires Inv-loop μ-loop
+entry-at-requires c κs = omega (arith, next c)
 
 wrapping-sub-u64-requires : tie.Need-wrapping-sub-u64-requires Inv-loop μ-loop
 wrapping-sub-u64-requires c κs = search needs
@@ -34,11 +45,11 @@ returns c =
     let l = c .before .before .before .before .loop in
     sym
     (l .inv .1
-    ∙ eachEarlier-outside _ _ (l .at) 4 (l .left) (omega arith)
-    (λ pos. omega (arith, pos, c .before .before .number-at .ensures, c .before .wrapping-sub-u64 .ensures, c .if1 .taken)))
+    ∙ eachEarlier-outside _ _ (l .at) _ (l .left) (omega arith)
+    (λ pos. omega (arith, pos, c .before .before .entry-at .ensures, c .before .wrapping-sub-u64 .ensures, c .if1 .taken)))
 
-add-at : tie.Need-add-at Inv-loop μ-loop
-add-at c = search needs
+add-at-2 : tie.Need-add-at-2 Inv-loop μ-loop
+add-at-2 c = omega (arith, next (c .before .before .before))
 
 sub-left : tie.Need-sub-left Inv-loop μ-loop
 sub-left c = search needs
@@ -49,15 +60,15 @@ loop-less c = search needs
 loop-again : tie.Need-loop-again Inv-loop μ-loop
 loop-again c =
     let l = c .before .before .before .before .loop in
-    let read = c .before .before .number-at .ensures in
+    let read = c .before .before .entry-at .ensures in
     let less = c .before .wrapping-sub-u64 .ensures in (
-      omega arith,
+      omega (arith, next (c .before .before .before)),
       l .inv .1
-          ∙ eachEarlier-next _ _ (l .at) 4 (l .left) (omega arith) (omega (arith, read, less, c .if1 .left)) (omega (arith, read, less, c .if1 .left)),
+          ∙ eachEarlier-next _ _ (l .at) _ (l .left) (omega arith) (omega (arith, read, less, c .if1 .left)) (omega (arith, read, less, c .if1 .left)),
     )
 
 returns-2 : tie.Need-returns-2 Inv-loop μ-loop
-returns-2 c = let l = c .before .loop in sym (l .inv .1 ∙ eachEarlier-none _ _ (l .at) 4 (l .left) (c .loop-test .left))
+returns-2 c = let l = c .before .loop in sym (l .inv .1 ∙ eachEarlier-none _ _ (l .at) _ (l .left) (c .loop-test .left))
 
 pub each-earlier-spec : {M : Type 1} → statement M
 each-earlier-spec =
@@ -66,11 +77,12 @@ each-earlier-spec =
     Inv-loop
     μ-loop
     sub-limit
+    add-at
     loop-holds
-    number-at-requires
+    entry-at-requires
     wrapping-sub-u64-requires
     returns
-    add-at
+    add-at-2
     sub-left
     loop-less
     loop-again

@@ -11,6 +11,9 @@ use Rattle.frame.proofs.entry_count.Tie as tie
 few : (c : tie.After-number-at) → ones (c .number-at .result) ≤ 64
 few c = ones-le 64 (c .number-at .result) (c .number-at .ensures .1)
 
+add-number-at : tie.Need-add-number-at
+add-number-at c = search needs
+
 number-at-requires : tie.Need-number-at-requires
 number-at-requires c κs = search needs
 
@@ -21,4 +24,4 @@ returns : tie.Need-returns
 returns c = (sym (onesIn-ones 64 (c .number-at .result) (c .number-at .ensures .1)) ∙ ap (onesIn 64) (c .number-at .ensures .0), few c)
 
 pub entry-count-spec : {M : Type 1} → statement M
-entry-count-spec = tie.close (tie.spec number-at-requires cast-result returns)
+entry-count-spec = tie.close (tie.spec add-number-at number-at-requires cast-result returns)

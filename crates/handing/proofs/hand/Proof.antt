@@ -5,6 +5,7 @@ use Prim.Native.Nat.{ℕ}
 use borrow.Author.Needs.{needs}
 use denote.Ref.{now}
 use Rattle.frame.specs.Reading.{messageIn}
+use Rattle.rules.specs.Sizes.{width}
 use Rattle.rules.specs.Handing.{raise}
 use Rattle.handing.proofs.hand.Statement.{statement}
 use Rattle.handing.proofs.hand.Tie as tie
@@ -22,7 +23,7 @@ returns : tie.Need-returns
 returns c =
     let put = c .before .before in
     let pass = put .before .before .before .before in
-    let m = messageIn 4 (now (pass .before .before .before .before .before .before .args .frame)) in
+    let m = messageIn width (now (pass .before .before .before .before .before .before .args .frame)) in
     let (high, marks, barrier, output) = put .put-in-log .ensures in
     let (short, floor) = pass .pass-entries .ensures in
     (high, marks, barrier ∙ ap (λ (b : List ℕ). raise b m) short, output, floor)

@@ -9,6 +9,7 @@ use lib.ListN.{getD, set}
 use Rattle.frame.specs.Message.{Message}
 use Rattle.frame.specs.Reading.{messageIn}
 use Rattle.frame.proofs.Passed.{zero-passed}
+use Rattle.rules.specs.Sizes.{width, logRecordLength}
 use Rattle.rules.specs.Handing.{raise, logRecord}
 use Rattle.handing.proofs.OutputPart.{over-part}
 use Rattle.handing.proofs.put_in_log.Statement.{statement}
@@ -25,7 +26,7 @@ start c = c .before .before .before .before .before .before .before .before
 
 source-few : (c : tie.After-source) → c .source .result < 64
 unfolding messageIn
-source-few c = omega (arith, c .source .ensures, zero-passed 4 (now (start c .args .frame)) (start c .pre .0) .source)
+source-few c = omega (arith, c .source .ensures, zero-passed width (now (start c .args .frame)) (start c .pre .0) .source)
 
 mul-at : tie.Need-mul-at
 mul-at c = search needs
@@ -95,7 +96,7 @@ returns c =
     let due = source .before in
     let put = due .before .before .before in
     let a = start source .args in
-    let m = messageIn 4 (now (a .frame)) in (
+    let m = messageIn width (now (a .frame)) in (
       rw (c .larger3 .ensures, due .deadline .ensures),
       raised (now (a .marks)) m (source .source .result) (due .deadline .result) (marks .larger .result) (source .source .ensures)
           (due .deadline .ensures)
@@ -103,7 +104,7 @@ returns c =
       raised (now (a .barrier)) m (source .source .result) (due .deadline .result) (barrier .larger2 .result) (source .source .ensures)
           (due .deadline .ensures)
           (barrier .larger2 .ensures),
-      over-part (now (a .output)) (a .handed * 38) (put .put-log-record .last .0) (logRecord m) (put .put-log-record .ensures),
+      over-part (now (a .output)) (a .handed * logRecordLength) (put .put-log-record .last .0) (logRecord m) (put .put-log-record .ensures),
     )
 
 pub put-in-log-spec : {M : Type 1} → statement M

@@ -10,6 +10,7 @@ use lib.ListN.{length, take, drop}
 use Rattle.frame.specs.Reading.{countIn, messageIn}
 use Rattle.frame.proofs.Entries.{onesIn-ones}
 use Rattle.frame.proofs.Passed.{Passed, zero-passed, length-payload}
+use Rattle.rules.specs.Sizes.{width}
 use Rattle.handing.proofs.LogRecord.{part-payload, put-logRecord}
 use Rattle.handing.proofs.put_log_record.Statement.{statement}
 use Rattle.handing.proofs.put_log_record.Tie as tie
@@ -17,28 +18,28 @@ use Rattle.handing.proofs.put_log_record.Tie as tie
 abbrev bytes : tie.After-number-at → List ℕ
 bytes c = now (c .before .before .before .args .frame)
 
-passed : (c : tie.After-number-at) → Passed 4 (bytes c)
-passed c = zero-passed 4 (bytes c) (c .before .before .before .pre .1)
+passed : (c : tie.After-number-at) → Passed width (bytes c)
+passed c = zero-passed width (bytes c) (c .before .before .before .pre .1)
 
 few : (c : tie.After-number-at) → ones (c .number-at .result) ≤ 64
 few c = ones-le 64 (c .number-at .result) (c .number-at .ensures .1)
 
-counted : (c : tie.After-number-at) → ones (c .number-at .result) ≡ countIn 4 (bytes c)
+counted : (c : tie.After-number-at) → ones (c .number-at .result) ≡ countIn width (bytes c)
 counted c = sym (onesIn-ones 64 (c .number-at .result) (c .number-at .ensures .1)) ∙ ap (onesIn 64) (c .number-at .ensures .0)
 
 abbrev start : tie.After-number-at → ℕ
-start c = 19 + 4 * ones (c .number-at .result)
+start c = 15 + width + width * ones (c .number-at .result)
 
 room : (c : tie.After-number-at) → start c ≤ length (bytes c)
 room c = omega (arith, counted c, passed c .room)
 
-sized : (c : tie.After-number-at) → length (bytes c) - start c ≡ length (messageIn 4 (bytes c) .payload)
-sized c = omega (arith, counted c, passed c .whole, length-payload 4 (bytes c) (passed c))
+sized : (c : tie.After-number-at) → length (bytes c) - start c ≡ length (messageIn width (bytes c) .payload)
+sized c = omega (arith, counted c, passed c .whole, length-payload width (bytes c) (passed c))
 
 fits : (c : tie.After-number-at) → length (bytes c) - start c ≤ 32
 fits c = omega (arith, counted c, passed c .whole, passed c .payload)
 
-part : (c : tie.After-number-at) → take (length (bytes c) - start c) (drop (start c) (bytes c)) ≡ messageIn 4 (bytes c) .payload
+part : (c : tie.After-number-at) → take (length (bytes c) - start c) (drop (start c) (bytes c)) ≡ messageIn width (bytes c) .payload
 part c = part-payload (bytes c) (ones (c .number-at .result)) (counted c)
 
 -- where the mask was read, from each call behind it
@@ -52,7 +53,7 @@ abbrev mask5 : tie.After-put-bytes-arg → tie.After-number-at
 mask5 c = mask4 (c .before .before .before .before)
 
 number-at-requires : tie.Need-number-at-requires
-number-at-requires c κs = omega (arith, zero-passed 4 (now (c .before .before .args .frame)) (c .before .before .pre .1) .long)
+number-at-requires c κs = omega (arith, zero-passed width (now (c .before .before .args .frame)) (c .before .before .pre .1) .room)
 
 cast-start : tie.Need-cast-start
 cast-start c = omega (arith, few c)
@@ -77,9 +78,6 @@ put-number-requires c κs = search needs
 
 deadline-requires : tie.Need-deadline-requires
 deadline-requires c κs = search needs
-
-cast-put-number-2 : tie.Need-cast-put-number-2
-cast-put-number-2 c = search needs
 
 put-number-requires-2 : tie.Need-put-number-requires-2
 put-number-requires-2 c κs = search needs
@@ -114,7 +112,7 @@ returns c =
     let put1 = put2 .before .before .before .before .before in
     let mask = mask5 (put5 .before .before) in
     let s = mask .before .before .before in
-    put-logRecord (now (s .args .part)) (messageIn 4 (bytes mask)) (put1 .before .source .ensures) (put2 .before .deadline .ensures)
+    put-logRecord (now (s .args .part)) (messageIn width (bytes mask)) (put1 .before .source .ensures) (put2 .before .deadline .ensures)
     (sized mask) (part mask) (fits mask) (s .pre .0)
     (put1 .put-number .ensures) (put2 .put-number2 .ensures) (put3 .put-number3 .ensures) (put4 .put-zeros .ensures) (put5 .put-bytes .ensures)
 
@@ -131,7 +129,6 @@ put-log-record-spec =
     cast-put-number
     put-number-requires
     deadline-requires
-    cast-put-number-2
     put-number-requires-2
     put-number-requires-3
     put-zeros-requires

@@ -43,17 +43,14 @@ add-number-at c = omega (arith, whole c .room)
 number-at-requires : tie.Need-number-at-requires
 number-at-requires c κs = omega (arith, whole c .room)
 
-cast-t8 : tie.Need-cast-t8
-cast-t8 c = search needs
+shared-slice-read-t9 : tie.Need-shared-slice-read-t9
+shared-slice-read-t9 c = omega (arith, whole (c .before .before) .room)
 
-shared-slice-read-t10 : tie.Need-shared-slice-read-t10
-shared-slice-read-t10 c = omega (arith, whole (c .before .before) .room)
+add-t10 : tie.Need-add-t10
+add-t10 c = omega (arith, whole (c .before .before) .room)
 
-add-t11 : tie.Need-add-t11
-add-t11 c = omega (arith, whole (c .before .before) .room)
-
-shared-slice-read-t13 : tie.Need-shared-slice-read-t13
-shared-slice-read-t13 c = omega (arith, whole (c .before .before .before) .room)
+shared-slice-read-t12 : tie.Need-shared-slice-read-t12
+shared-slice-read-t12 c = omega (arith, whole (c .before .before .before) .room)
 
 returns-2 : tie.Need-returns-2
 returns-2 c =
@@ -74,8 +71,7 @@ panel-log-fields-spec =
     mul-start
     add-number-at
     number-at-requires
-    cast-t8
-    shared-slice-read-t10
-    add-t11
-    shared-slice-read-t13
+    shared-slice-read-t9
+    add-t10
+    shared-slice-read-t12
     returns-2)

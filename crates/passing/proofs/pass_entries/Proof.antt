@@ -7,6 +7,7 @@ use denote.Ref.{now}
 use lib.ListN.{length, getD}
 use lib.Bits.{and-le-r}
 use Rattle.frame.proofs.Passed.{zero-passed}
+use Rattle.rules.specs.Sizes.{width}
 use Rattle.rules.specs.Handing.{remains, missedEntry}
 use Rattle.slots.proofs.SetBits.{next}
 use Rattle.slots.proofs.Walk.{turn-lt, turn-room}
@@ -21,7 +22,7 @@ abbrev μ-loop : tie.MeasureT-loop
 μ-loop time floor₀ marks barrier₀ frame bits₀ passed₀ floor barrier bits passed = bits
 
 number-at-requires : tie.Need-number-at-requires Inv-loop μ-loop
-number-at-requires c κs = omega (arith, zero-passed 4 _ (c .before .pre) .long)
+number-at-requires c κs = omega (arith, zero-passed width _ (c .before .pre) .room)
 
 loop-holds : tie.Need-loop-holds Inv-loop μ-loop
 loop-holds c =
@@ -37,7 +38,7 @@ loop-holds c =
 below : (c : tie.In-loop Inv-loop μ-loop) → next (c .before .loop .bits) < 64
 below c = turn-lt (c .before .loop .inv .walk) (c .loop-test .taken)
 
-room : (c : tie.In-loop Inv-loop μ-loop) → 18 + 4 * c .before .loop .passed + 4 ≤ length (now (c .before .before .before .before .args .frame))
+room : (c : tie.In-loop Inv-loop μ-loop) → 14 + width + width * c .before .loop .passed + width ≤ length (now (c .before .before .before .before .args .frame))
 room c = turn-room (c .before .loop .inv .walk) (c .loop-test .taken) (c .before .before .before .before .pre)
 
 cast-panel : tie.Need-cast-panel Inv-loop μ-loop
@@ -51,9 +52,6 @@ add-number-at c = search (needs, room c)
 
 number-at-requires-2 : tie.Need-number-at-requires-2 Inv-loop μ-loop
 number-at-requires-2 c κs = omega (arith, room c)
-
-cast-carried : tie.Need-cast-carried Inv-loop μ-loop
-cast-carried c = search needs
 
 mul-remaining : tie.Need-mul-remaining Inv-loop μ-loop
 mul-remaining c = omega (arith, below (c .before))
@@ -121,7 +119,6 @@ pass-entries-spec =
     mul-number-at
     add-number-at
     number-at-requires-2
-    cast-carried
     mul-remaining
     element-copy-out-remaining
     remaining-requires

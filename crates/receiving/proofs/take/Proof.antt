@@ -4,6 +4,7 @@ use Prim.Native.Nat.{_<_}
 use borrow.Author.Needs.{needs}
 use denote.Ref.{now}
 use Rattle.frame.specs.Reading.{messageIn}
+use Rattle.rules.specs.Sizes.{width}
 use Rattle.rules.specs.Panel.{ready}
 use Rattle.choosing.specs.Choice.{asking}
 use Rattle.receiving.proofs.Taking.{room-unready, length-reads, taken-handed, taken-waiting}
@@ -14,7 +15,7 @@ abbrev start : tie.After-ready → tie.Start
 start c = c .before .before .before .before
 
 is-ready : (c : tie.After-ready) → let a = start c .args in
-    ready (asking (now (a .marks)) (a .s .time) (a .s .floor)) (messageIn 4 (now (a .frame))) ≡ c .ready .result .ready
+    ready (asking (now (a .marks)) (a .s .time) (a .s .floor)) (messageIn width (now (a .frame))) ≡ c .ready .result .ready
 is-ready c = sym (c .ready .ensures .0)
 
 few : (c : tie.Else1) → start (c .before) .args .s .waiting < 32

@@ -7,11 +7,13 @@ use native.Mathlib.Nat.{sub-zero}
 use native.Mathlib.Omega.{arith}
 use borrow.Author.Needs.{needs}
 use lib.ListN.{length, take}
+use lib.Dec.{ltb}
 use Rattle.numbers.specs.Numbers.{Bytes}
 use Rattle.numbers.specs.Buffer.{over}
 use Rattle.numbers.proofs.Over.{take-over}
 use Rattle.frame.specs.Frame.{frame}
 use Rattle.frame.specs.Refusal.{firstOf}
+use Rattle.rules.specs.Sizes.{width, lastDeadline}
 use Rattle.rules.specs.Panel.{Panel as Record, none64}
 use Rattle.rules.specs.Calls.{newMessage, sendDeadline}
 use Rattle.rules.specs.Refusals.{broken, sendChecks}
@@ -28,10 +30,10 @@ use Rattle.sending.proofs.send_in_place.Statement.{statement}
 use Rattle.sending.proofs.send_in_place.Tie as tie
 
 -- looking back: what was known of the payload, and the start of the call
-abbrev known : tie.After-send-deadline → tie.After-shared-slice-known
+abbrev known : tie.After-passes-last → tie.After-shared-slice-known
 known c = c .before .before .before .before .before .before .before .before .before .before .before .before
 
-abbrev start : tie.After-send-deadline → tie.Start
+abbrev start : tie.After-passes-last → tie.Start
 start c = known c .before
 
 -- the parts that were lent, and the record that they hold
@@ -50,16 +52,16 @@ table c = sendChecks (given c) (c .args .payload .now) (c .args .lifetime) (c .a
 payload-bytes : (c : tie.After-shared-slice-known) → Bytes (c .before .args .payload .now)
 payload-bytes c = λ i. omega (arith, c .shared-slice-known .given i)
 
-panels : (c : tie.After-send-deadline) → length (start c .args .barrier .now) ≡ 64
+panels : (c : tie.After-passes-last) → length (start c .args .barrier .now) ≡ 64
 panels c = search needs
 
-all-slots : (c : tie.After-send-deadline) → Slots (start c .args .slots .now)
+all-slots : (c : tie.After-passes-last) → Slots (start c .args .slots .now)
 all-slots c = search needs
 
--- the deadline that the message would have
-due : (c : tie.After-send-deadline) → c .send-deadline .result ≡ sendDeadline (given (start c)) (start c .args .lifetime)
+-- whether the deadline that the message would have passes the last one
+passes : (c : tie.After-passes-last) → c .passes-last .result ≡ ltb lastDeadline (sendDeadline (given (start c)) (start c .args .lifetime))
 unfolding sendDeadline
-due c = c .send-deadline .ensures
+passes c = c .passes-last .ensures
 
 -- the number is that of the first check that applies
 numbered : (c : tie.After-send-number) → c .send-number .result ≡ firstOf (table (start (c .before)))
@@ -67,8 +69,8 @@ unfolding broken
 numbered c =
     let a = start (c .before) .args in
     c .send-number .ensures
-    ∙ ap₂ (λ (b : Bool) (n : ℕ). firstOf (sendChecksOn b (length (a .output .now)) (length (a .buffer .now)) (length (a .payload .now)) n))
-    (c .before .before .broken .ensures) (due (c .before))
+    ∙ ap₂ (λ (b past : Bool). firstOf (sendChecksOn b (length (a .output .now)) (length (a .buffer .now)) (length (a .payload .now)) past))
+    (c .before .before .broken .ensures) (passes (c .before))
     ∙ ap firstOf (sendChecks-on (given (start (c .before))) (a .payload .now) (a .lifetime) (a .output .now) (a .buffer .now))
 
 -- past the checks
@@ -86,16 +88,20 @@ passed c =
 
 -- the frame that was written
 abbrev new-frame : tie.Else1 → List ℕ
-new-frame c = let a = back c .args in frame 4 (newMessage (given (back c)) (a .payload .now) (a .lifetime))
+new-frame c = let a = back c .args in frame width (newMessage (given (back c)) (a .payload .now) (a .lifetime))
 
 abbrev past : tie.After-write → tie.Else1
-past c = c .before .before .before
+past c = c .before .before .before .before
+
+due : (c : tie.After-write) → c .before .before .before .send-deadline .result ≡ sendDeadline (given (back (past c))) (back (past c) .args .lifetime)
+unfolding sendDeadline
+due c = c .before .before .before .send-deadline .ensures
 
 wrote : (c : tie.After-write) → (c .write .result ≡ length (new-frame (past c)))
     × (c .write .last .1 .1 .1 .1 .0 ≡ over (back (past c) .args .buffer .now) 0 (new-frame (past c)))
 unfolding newMessage
 wrote c =
-    let ensured = rw (due (past c .before .before)) at (c .write .ensures) in
+    let ensured = rw (due c) at (c .write .ensures) in
     (ensured .0 ∙ length-written (passed (past c)), ensured .1 ∙ buffer-written (passed (past c)))
 
 -- and the part of the buffer that it occupies
@@ -110,8 +116,8 @@ part c =
 broken-requires : tie.Need-broken-requires
 broken-requires c κs = search needs
 
-send-deadline-requires : tie.Need-send-deadline-requires
-send-deadline-requires c κs = search needs
+passes-last-requires : tie.Need-passes-last-requires
+passes-last-requires c κs = search needs
 
 send-number-requires : tie.Need-send-number-requires
 send-number-requires c κs = search needs
@@ -119,8 +125,9 @@ send-number-requires c κs = search needs
 returns : tie.Need-returns
 returns c = refused-in-place (lent (start (c .before .before))) (send _ _ _ _) _ (numbered (c .before)) (c .if1 .taken)
 
-cast-write : tie.Need-cast-write
-cast-write c = omega (arith, due (c .before .before), checked (passed c) .deadline)
+send-deadline-requires : tie.Need-send-deadline-requires
+unfolding sendDeadline
+send-deadline-requires c κs = checked (passed c) .deadline
 
 write-requires : tie.Need-write-requires
 write-requires c κs = search needs
@@ -187,10 +194,10 @@ send-in-place-spec =
     tie.close
     (tie.spec
     broken-requires
-    send-deadline-requires
+    passes-last-requires
     send-number-requires
     returns
-    cast-write
+    send-deadline-requires
     write-requires
     sub-frame
     part-frame-start

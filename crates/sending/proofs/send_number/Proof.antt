@@ -32,7 +32,7 @@ returns-5 c =
       le-ltb _ _ (fits .before .if2 .left),
       le-ltb _ _ (fits .if3 .left),
       le-ltb _ _ (short .if4 .left),
-      lt-ltb _ _ (c .if5 .taken),
+      c .if5 .taken,
     )
 
 returns-6 : tie.Need-returns-6
@@ -45,7 +45,7 @@ returns-6 c =
       le-ltb _ _ (fits .before .if2 .left),
       le-ltb _ _ (fits .if3 .left),
       le-ltb _ _ (short .if4 .left),
-      le-ltb _ _ (c .if5 .left),
+      c .if5 .left,
     )
 
 pub send-number-spec : {M : Type 1} → statement M

@@ -6,6 +6,7 @@ use borrow.Author.Tests.{not-true, not-false}
 use borrow.Fn.Kinds.{In, Out}
 use borrow.Fn.PlainCycle.{Measures, is, falls, and}
 use Rattle.frame.specs.Reading.{messageIn}
+use Rattle.rules.specs.Sizes.{width}
 use Rattle.slots.proofs.Framed.{reads-fits}
 use Rattle.slots.specs.Slots.{frameAt}
 use Rattle.settling.specs.Record.{Stage, left, stage}
@@ -127,9 +128,9 @@ handed t c =
     let a = s .args in
     let leave = c .before .before .before .before .before .before .before .before .leave in
     let frame = c .before .before .kept-frame in
-    let is = ap (messageIn 4) (sym (frame .ensures ∙ ap (frameAt (a .slots .now)) (leave .ensures .0))) in
+    let is = ap (messageIn width) (sym (frame .ensures ∙ ap (frameAt (a .slots .now)) (leave .ensures .0))) in
     handed-at (a .slots .now) (b .before .before .choice .result .place) (begun t s) (a .places .now) (leave .last .0) (a .marks .now) (a .barrier .now)
-    (a .output .now) (messageIn 4 (frame .result .now)) (s .pre .1 .0 .1) (s .pre .1 .0 .2) (below t b) is (leave .ensures .1)
+    (a .output .now) (messageIn width (frame .result .now)) (s .pre .1 .0 .1) (s .pre .1 .0 .2) (below t b) is (leave .ensures .1)
     (c .hand .result) _ _ _ _ (c .hand .ensures .0) (c .hand .ensures .1) (c .hand .ensures .2) (c .hand .ensures .3)
     (c .hand .ensures .4)
 

@@ -12,7 +12,8 @@ use lib.ListN.{length, take, drop, length-drop}
 use lib.Seq.{take-all}
 use Rattle.rules.specs.Refusals.{eachReadable}
 use Rattle.frame.specs.Reading.{refusal}
-use Rattle.slots.specs.Slots.{frameAt, held, firstSlots}
+use Rattle.rules.specs.Sizes.{width}
+use Rattle.slots.specs.Slots.{slotLength, frameAt, held, firstSlots}
 use Rattle.slots.proofs.Held.{between, between-all}
 use Rattle.slot_check.proofs.Tests.{Bytes-frameAt, eachReadable-next, eachReadable-stop, eachReadable-end}
 use Rattle.slot_check.proofs.all_read.Statement.{statement}
@@ -29,10 +30,10 @@ loop-holds c = ap (λ (places : List ℕ). eachReadable (held (c .before .args .
 
 -- the part that is lent is the slot, with those behind it
 slot-at : (c : tie.In-loop Inv-loop μ-loop) → let slots = c .before .before .before .args .slots .now in
-    take (length slots - c .before .loop .slot * 309) (drop (c .before .loop .slot * 309) slots) ≡ drop (c .before .loop .slot * 309) slots
+    take (length slots - c .before .loop .slot * slotLength) (drop (c .before .loop .slot * slotLength) slots) ≡ drop (c .before .loop .slot * slotLength) slots
 slot-at c =
     let slots = c .before .before .before .args .slots .now in
-    let at = c .before .loop .slot * 309 in
+    let at = c .before .loop .slot * slotLength in
     take-all (length slots - at) (drop at slots) (le-of-eq (length-drop at slots))
 
 mul-at : tie.Need-mul-at Inv-loop μ-loop
@@ -52,7 +53,7 @@ holds-frame-requires c κs = rw (slot-at (c .before), length-drop) (omega (arith
 
 -- the answer is whether the frame in the slot reads
 answered : (c : tie.After-holds-frame Inv-loop μ-loop) → let slots = c .before .before .before .before .before .args .slots .now in
-    eqb (refusal 4 (frameAt slots (c .before .before .before .loop .slot))) 0 ≡ c .holds-frame .result
+    eqb (refusal width (frameAt slots (c .before .before .before .loop .slot))) 0 ≡ c .holds-frame .result
 unfolding frameAt
 answered c = sym (rw (slot-at (c .before .before)) at (c .holds-frame .ensures))
 

@@ -16,14 +16,15 @@ use Rattle.frame.specs.Reading.{eachEarlier, refusal}
 use Rattle.slots.specs.Slots.{framed}
 use Rattle.frame.proofs.EachNumber.{eachEarlier-none, eachEarlier-zero, eachEarlier-late, eachEarlier-next}
 use Rattle.numbers.proofs.Ones.{onesIn-le, onesIn-zero, onesIn-and}
+use Rattle.rules.specs.Sizes.{width}
 use Rattle.slot_check.proofs.InSlot.{countOf, payloadOf, Holds, holds-reads, reads-holds, eqb-both}
 use Rattle.slot_check.proofs.holds_frame.Statement.{statement}
 use Rattle.slot_check.proofs.holds_frame.Tie as tie
 
 abbrev Inv-loop : tie.InvT-loop
 Inv-loop slot head deadline bits₀ at₀ bits at =
-    (bits < 2 ^ 64) × (at + 4 * onesIn 64 bits ≡ 20 + 4 * countOf slot)
-    × (eachEarlier deadline (numbersAt slot 20 4 (countOf slot)) ≡ eachEarlier deadline (numbersAt slot at 4 (onesIn 64 bits)))
+    (bits < 2 ^ 64) × (at + width * onesIn 64 bits ≡ 16 + width + width * countOf slot)
+    × (eachEarlier deadline (numbersAt slot (16 + width) width (countOf slot)) ≡ eachEarlier deadline (numbersAt slot at width (onesIn 64 bits)))
 
 abbrev μ-loop : tie.MeasureT-loop
 μ-loop slot head deadline bits₀ at₀ bits at = bits
@@ -39,7 +40,7 @@ are-bytes : (c : tie.After-shared-slice-known Inv-loop μ-loop) → Bytes (bytes
 are-bytes c i = omega (arith, c .shared-slice-known .given i)
 
 -- what refutes `Holds` of the slot is an answer of false
-refused : (c : tie.After-shared-slice-known Inv-loop μ-loop) → (Holds (bytes c) → ⊥) → false ≡ eqb (refusal 4 (framed (bytes c))) 0
+refused : (c : tie.After-shared-slice-known Inv-loop μ-loop) → (Holds (bytes c) → ⊥) → false ≡ eqb (refusal width (framed (bytes c))) 0
 refused c unheld = sym (ne-eqb _ _ (λ reads. unheld (reads-holds (bytes c) (are-bytes c) (c .before .pre) reads)))
 
 -- a bit is left, and its entry stands within the slot
@@ -47,12 +48,12 @@ some : (c : tie.In-loop Inv-loop μ-loop) → let bits = c .before .loop .bits i
     onesIn 64 bits ≡ onesIn 64 (bitAnd bits (bits - 1)) + 1
 some c = let l = c .before .loop in onesIn-and 64 (l .bits) (omega (arith, c .loop-test .taken)) (l .inv .0)
 
-few : (c : tie.At-loop Inv-loop μ-loop) → c .loop .at + 4 * onesIn 64 (c .loop .bits) ≤ 276
-few c = omega (arith, c .loop .inv .1, onesIn-le 64 (numberAt (bytes (start c)) 12 8))
+few : (c : tie.At-loop Inv-loop μ-loop) → c .loop .at + width * onesIn 64 (c .loop .bits) ≤ 16 + width + width * 64
+few c = omega (arith, c .loop .inv .1, onesIn-le 64 (numberAt (bytes (start c)) (8 + width) 8))
 
 -- the entries that are left decide whether all pass
 late : (c : tie.At-loop Inv-loop μ-loop)
-    → eachEarlier (c .before .before .before .number-at2 .result) (numbersAt (bytes (start c)) (c .loop .at) 4 (onesIn 64 (c .loop .bits))) ≡ false
+    → eachEarlier (c .before .before .before .number-at2 .result) (numbersAt (bytes (start c)) (c .loop .at) width (onesIn 64 (c .loop .bits))) ≡ false
     → Holds (bytes (start c)) → ⊥
 late c fails h = true≢false (sym (h .entries) ∙ rw (← c .before .before .before .number-at2 .ensures .0) (c .loop .inv .2 ∙ fails))
 
@@ -60,7 +61,7 @@ late c fails h = true≢false (sym (h .entries) ∙ rw (← c .before .before .b
 none : (c : tie.After-loop Inv-loop μ-loop) → onesIn 64 (c .before .loop .bits) ≡ 0
 none c = ap (onesIn 64) (c .loop-test .left) ∙ onesIn-zero 64
 
-ended : (c : tie.After-loop Inv-loop μ-loop) → c .before .loop .at ≡ 20 + 4 * countOf (bytes (start (c .before)))
+ended : (c : tie.After-loop Inv-loop μ-loop) → c .before .loop .at ≡ 16 + width + width * countOf (bytes (start (c .before)))
 ended c = omega (arith, c .before .loop .inv .1, none c)
 
 payload : (c : tie.After-number-at5 Inv-loop μ-loop) → c .number-at5 .result ≡ payloadOf (bytes (start (c .before .before)))
@@ -92,14 +93,14 @@ returns-3 c =
     let turn = c .before .before in
     let l = turn .before .loop in
     refused (start (turn .before))
-    (late (turn .before) (eachEarlier-zero _ _ (l .at) 4 _ (omega (arith, some turn)) (omega (arith, c .if3 .taken, c .before .number-at4 .ensures .0))))
+    (late (turn .before) (eachEarlier-zero _ _ (l .at) width _ (omega (arith, some turn)) (omega (arith, c .if3 .taken, c .before .number-at4 .ensures .0))))
 
 returns-4 : tie.Need-returns-4 Inv-loop μ-loop
 returns-4 c =
     let turn = c .before .before .before in
     let l = turn .before .loop in
     refused (start (turn .before))
-    (late (turn .before) (eachEarlier-late _ _ (l .at) 4 _ (omega (arith, some turn)) (omega (arith, c .if4 .taken, c .before .before .number-at4 .ensures .0))))
+    (late (turn .before) (eachEarlier-late _ _ (l .at) width _ (omega (arith, some turn)) (omega (arith, c .if4 .taken, c .before .before .number-at4 .ensures .0))))
 
 sub-bits : tie.Need-sub-bits Inv-loop μ-loop
 sub-bits c = omega (arith, c .before .before .before .loop-test .taken)
@@ -124,7 +125,7 @@ loop-again c =
       omega (arith, and-le-r bits (bits - 1), l .inv .0),
       omega (arith, one, l .inv .1),
       l .inv .2
-          ∙ eachEarlier-next _ _ (l .at) 4 _ (omega (arith, one)) (omega (arith, read, c .before .if3 .left)) (omega (arith, read, c .if4 .left))
+          ∙ eachEarlier-next _ _ (l .at) width _ (omega (arith, one)) (omega (arith, read, c .before .if3 .left)) (omega (arith, read, c .if4 .left))
           ∙ rw rest refl,
     )
 
@@ -156,7 +157,7 @@ returns-6 c =
     (λ whole. holds-reads bs known long (record {
       head = omega (arith, head, l .before .before .before .before .if1 .left);
       deadline = λ z. l .before .before .if2 .left (due ∙ z);
-      entries = rw (← due) (l .loop .inv .2 ∙ eachEarlier-none _ _ (l .loop .at) 4 _ (omega (arith, none behind)));
+      entries = rw (← due) (l .loop .inv .2 ∙ eachEarlier-none _ _ (l .loop .at) width _ (omega (arith, none behind)));
       payload = omega (arith, payload (c .before), c .if5 .left);
       whole = omega (arith, head, whole, payload (c .before), ended behind);
     }))

@@ -4,6 +4,7 @@ use mathlib.Core.Logic.{⊎-elim}
 use native.Mathlib.Numerals.{add-one}
 use native.Mathlib.Omega.{arith}
 use lib.ListN.{getD}
+use Rattle.rules.specs.Sizes.{bufferLength}
 use Rattle.slots.specs.Slots.{lengthAt}
 use Rattle.slots.proofs.Framed.{reads-fits}
 use Rattle.slot_moves.proofs.Gathering.{Moving, moving-none, reads-place, moving-stays, moving-moves}
@@ -20,7 +21,7 @@ abbrev μ-loop : tie.MeasureT-loop
 low : (c : tie.In-loop Inv-loop μ-loop) → getD (c .before .before .args .places .now) (c .before .loop .slot) 0 < 32
 low c = c .before .before .pre .1 .below (c .before .loop .slot) (omega arith)
 
-short : (c : tie.In-loop Inv-loop μ-loop) → lengthAt (c .before .loop .slots) (getD (c .before .before .args .places .now) (c .before .loop .slot) 0) ≤ 307
+short : (c : tie.In-loop Inv-loop μ-loop) → lengthAt (c .before .loop .slots) (getD (c .before .before .args .places .now) (c .before .loop .slot) 0) ≤ bufferLength
 short c =
     let s = c .before .before in
     let l = c .before .loop in

@@ -8,6 +8,7 @@ use Rattle.numbers.specs.Numbers.{bigEndian}
 use Rattle.numbers.specs.Buffer.{over}
 use Rattle.numbers.proofs.BigEndian.{length-bigEndian}
 use Rattle.numbers.proofs.Over.{over-over}
+use Rattle.slots.specs.Slots.{slotLength}
 use borrow.Author.Needs.{needs}
 use Rattle.slot_moves.proofs.put_frame.Statement.{statement}
 use Rattle.slot_moves.proofs.put_frame.Tie as tie
@@ -31,8 +32,8 @@ returns c =
     let number = c .before .before .put-number .ensures in
     let size = length-bigEndian 2 (length (a .frame .now)) in
     c .put-bytes .ensures
-    ∙ ap (λ (bs : List ℕ). over bs (a .slot * 309 + 2) (a .frame .now)) number
-    ∙ over-over (a .slots .now) (a .slot * 309) (bigEndian 2 (length (a .frame .now))) (a .slot * 309 + 2) (a .frame .now) (omega (arith, size)) (omega (arith, s .pre))
+    ∙ ap (λ (bs : List ℕ). over bs (a .slot * slotLength + 2) (a .frame .now)) number
+    ∙ over-over (a .slots .now) (a .slot * slotLength) (bigEndian 2 (length (a .frame .now))) (a .slot * slotLength + 2) (a .frame .now) (omega (arith, size)) (omega (arith, s .pre))
 
 pub put-frame-spec : {M : Type 1} → statement M
 put-frame-spec =

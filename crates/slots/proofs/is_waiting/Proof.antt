@@ -6,6 +6,7 @@ use Prim.Native.Nat.{ℕ, suc, _-_}
 use native.Mathlib.Numerals.{add-one}
 use native.Mathlib.Omega.{arith}
 use Rattle.frame.specs.Reading.{messageIn}
+use Rattle.rules.specs.Sizes.{width}
 use Rattle.rules.specs.Refusals.{isWaiting}
 use Rattle.slots.specs.Slots.{held, firstSlots}
 use Rattle.slots.proofs.Framed.{reads-fits}
@@ -16,7 +17,7 @@ use Rattle.slots.proofs.is_waiting.Tie as tie
 
 abbrev Inv-loop : tie.InvT-loop
 Inv-loop frame slots count panel due slot₀ slot =
-    isWaiting (messageIn 4 frame) (held slots (between slot count)) ≡ isWaiting (messageIn 4 frame) (held slots (firstSlots count))
+    isWaiting (messageIn width frame) (held slots (between slot count)) ≡ isWaiting (messageIn width frame) (held slots (firstSlots count))
 
 abbrev μ-loop : tie.MeasureT-loop
 μ-loop frame slots count panel due slot₀ slot = count - slot
@@ -30,7 +31,7 @@ deadline-requires c κs = c .before .before .before .pre .0
 loop-holds : tie.Need-loop-holds Inv-loop μ-loop
 loop-holds c =
     let a = c .before .before .before .before .args in
-    ap (λ (places : List ℕ). isWaiting (messageIn 4 (a .frame .now)) (held (a .slots .now) places)) (between-all (a .count))
+    ap (λ (places : List ℕ). isWaiting (messageIn width (a .frame .now)) (held (a .slots .now) places)) (between-all (a .count))
 
 kept-frame-requires : tie.Need-kept-frame-requires Inv-loop μ-loop
 kept-frame-requires c κs =
@@ -44,10 +45,10 @@ is-named-requires c κs =
 
 -- what is asked of a slot is whether its message has the name of the frame's
 asked : (c : tie.After-is-named Inv-loop μ-loop)
-    → isWaiting (messageIn 4 (c .before .before .before .before .before .before .before .before .args .frame .now))
+    → isWaiting (messageIn width (c .before .before .before .before .before .before .before .before .args .frame .now))
     (held (c .before .before .before .before .before .before .before .before .args .slots .now)
     (between (c .before .before .before .loop .slot) (c .before .before .before .before .before .before .before .before .args .count)))
-    ≡ (c .is-named .result || isWaiting (messageIn 4 (c .before .before .before .before .before .before .before .before .args .frame .now))
+    ≡ (c .is-named .result || isWaiting (messageIn width (c .before .before .before .before .before .before .before .before .args .frame .now))
     (held (c .before .before .before .before .before .before .before .before .args .slots .now)
     (between (suc (c .before .before .before .loop .slot)) (c .before .before .before .before .before .before .before .before .args .count))))
 asked c =

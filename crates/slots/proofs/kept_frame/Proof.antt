@@ -4,6 +4,7 @@ use Prim.Native.Nat.{ℕ, _+_, _*_, _-_, _≤_}
 use native.Mathlib.Omega.{arith}
 use borrow.Author.Needs.{needs}
 use lib.ListN.{take, drop}
+use Rattle.slots.specs.Slots.{slotLength}
 use Rattle.rules.specs.Sizes.{bufferLength}
 use Rattle.slots.proofs.Framed.{frameAt-short}
 use Rattle.slots.proofs.kept_frame.Statement.{statement}
@@ -40,8 +41,8 @@ returns c =
     let read = c .before in
     let a = read .before .before .args in
     let n = read .number-at .ensures .0 in
-    let size : a .slot * 309 + 2 + read .number-at .result - (a .slot * 309 + 2) ≡ read .number-at .result = omega arith in
-    ap (λ (k : ℕ). take k (drop (a .slot * 309 + 2) (a .slots .now))) (size ∙ n) ∙ sym (frameAt-short _ _ (omega (arith, n, fits read)))
+    let size : a .slot * slotLength + 2 + read .number-at .result - (a .slot * slotLength + 2) ≡ read .number-at .result = omega arith in
+    ap (λ (k : ℕ). take k (drop (a .slot * slotLength + 2) (a .slots .now))) (size ∙ n) ∙ sym (frameAt-short _ _ (omega (arith, n, fits read)))
 
 pub kept-frame-spec : {M : Type 1} → statement M
 kept-frame-spec =

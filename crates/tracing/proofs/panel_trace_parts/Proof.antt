@@ -1,97 +1,96 @@
--- `tracing::panel_trace_parts` meets its contract: the number is that of the first check that applies, the rest is the answer of the test for
--- ready. Assumes nothing.
-use mathlib.Core.Path.{_≡_, sym, ap, _∙_}
-use mathlib.Core.Bool.{false}
+-- `tracing::panel_trace_parts` meets its contract: a frame of version 1 is shown as its frame of version 2 is. Assumes nothing.
+use mathlib.Core.Path.{_≡_, sym, ap, _∙_, subst⁻¹}
+use mathlib.Core.List.{List}
+use Prim.Native.Nat.{ℕ}
+use native.Mathlib.Omega.{arith}
 use borrow.Author.Needs.{needs}
+use borrow.Author.Tests.{eqb-true}
 use denote.Ref.{now}
-use Rattle.frame.specs.Refusal.{firstOf}
-use Rattle.rules.specs.Panel.{Panel as Record}
-use Rattle.rules.specs.Refusals.{broken}
-use Rattle.rules.proofs.Checks.{broken-false}
-use Rattle.slots.specs.Slots.{Reads}
-use Rattle.parts.specs.Record.{Parts, parts, recordOf}
-use Rattle.parts.proofs.Answering.{valid-kept}
-use Rattle.checking.proofs.MessageChecks.{checks-asking}
-use Rattle.tracing.proofs.Showing.{number-broken, number-unread, number-read, shown-unread, shown-read}
+use lib.ListN.{replicate}
+use Rattle.numbers.specs.Numbers.{Bytes}
+use Rattle.frame.specs.Frame.{narrow, wide, longest}
+use Rattle.frame.specs.Reading.{refusal}
+use Rattle.visits.specs.Visiting.{trace}
+use Rattle.visits.proofs.Tracing.{trace-alike}
+use Rattle.parts.specs.Record.{parts, recordOf}
+use Rattle.checking.specs.Checks.{NotNarrow}
+use Rattle.widening.proofs.Widened.{wide-fits, widened, picks-wide, widened-reads, narrow-reads, widened-message, widened-part, wide-or-not}
 use Rattle.tracing.proofs.panel_trace_parts.Statement.{statement}
 use Rattle.tracing.proofs.panel_trace_parts.Tie as tie
 
--- looking back: the start of the call
-abbrev start : tie.After-frame-check → tie.Start
-start c = c .before .before .before .before .before .before
+-- ---- a frame of version 1
 
--- the parts that were lent, and the record that they hold
-abbrev lent : tie.After-frame-check → Parts
-lent c =
-    let a = start c .args in parts (a .own) (a .time) (a .high) (a .count) (now (a .marks)) (now (a .barrier)) (now (a .slots)) (a .floor)
+abbrev start : tie.Then1 → tie.Start
+start c = c .before .before .before
 
-abbrev given : tie.After-frame-check → Record
-given c = recordOf (lent c)
+abbrev bytes : tie.Then1 → List ℕ
+bytes c = now (start c .args .frame)
 
--- whether 26 applies, and that the bytes read
-is-broken : (c : tie.After-frame-check) → c .before .broken .result ≡ broken (given c)
-unfolding broken
-is-broken c = c .before .broken .ensures
+are-bytes : (c : tie.Then1) → Bytes (bytes c)
+are-bytes c = λ i. omega (arith, c .before .before .shared-slice-known .given i)
 
-reads : (c : tie.Else1) → Reads (now (start (c .before) .args .frame))
-reads c = sym (c .before .frame-check .ensures) ∙ c .if1 .left
+reads : (c : tie.Then1) → refusal narrow (bytes c) ≡ 0
+reads c = eqb-true (refusal narrow (bytes c)) 0 (sym (c .before .is-narrow .ensures) ∙ c .if1 .taken)
 
-broken-requires : tie.Need-broken-requires
-broken-requires c κs = search needs
+is-narrow-requires : tie.Need-is-narrow-requires
+is-narrow-requires c κs = search needs
 
-frame-check-requires : tie.Need-frame-check-requires
-frame-check-requires c κs = search needs
+slice-aggregate-widen : tie.Need-slice-aggregate-widen
+slice-aggregate-widen c = search needs
 
-unread-number-requires : tie.Need-unread-number-requires
-unread-number-requires c κs = search needs
+widen-requires : tie.Need-widen-requires
+widen-requires c κs = (reads (c .before), search needs)
+
+slice-aggregate-first : tie.Need-slice-aggregate-first
+slice-aggregate-first c = search needs
+
+first-requires : tie.Need-first-requires
+first-requires c κs =
+    let put = c .before .before in
+    let past = put .before .before in
+    omega (arith, put .widen .ensures .0, wide-fits (bytes past) (are-bytes past) (reads past), put .widen .kept)
+
+-- what is looked at is the frame of version 2
+kept-is : (c : tie.After-first) → let past = c .before .before .before .before .before in now (c .first .result) ≡ widened (bytes past) (are-bytes past) (reads past)
+kept-is c =
+    let put = c .before .before .before in
+    let past = put .before .before in
+    c .first .ensures ∙ widened-part (bytes past) (are-bytes past) (reads past) (replicate (longest wide) 0) _ _ (put .widen .ensures .0) (put .widen .ensures .1)
+
+trace-wide-requires : tie.Need-trace-wide-requires
+trace-wide-requires c κs =
+    let past = c .before .before .before .before .before in
+    subst⁻¹ NotNarrow (kept-is c) (λ _. picks-wide (bytes past) (are-bytes past) (reads past))
 
 returns : tie.Need-returns
 returns c =
-    let unread = c .before .if1 .taken in
-    let at = c .before .before in
-    let bytes = now (start at .args .frame) in
-    let number = c .unread-number .ensures ∙ number-unread (given at) bytes _ _ (is-broken at) (at .frame-check .ensures) unread in
-    shown-unread (given at) bytes _ number (λ read. unread (at .frame-check .ensures ∙ read))
+    let first = c .before in
+    let past = first .before .before .before .before .before in
+    let a = start past .args in
+    let given = recordOf (parts (a .own) (a .time) (a .high) (a .count) (now (a .marks)) (now (a .barrier)) (now (a .slots)) (a .floor)) in
+    c .trace-wide .ensures
+    ∙ ap (λ (frame : List ℕ). trace given frame) (kept-is first)
+    ∙ trace-alike given (widened (bytes past) (are-bytes past) (reads past)) (bytes past) (widened-reads (bytes past) (are-bytes past) (reads past))
+    (narrow-reads (bytes past) (are-bytes past) (reads past)) (widened-message (bytes past) (are-bytes past) (reads past))
 
-ready-requires : tie.Need-ready-requires
-ready-requires c κs = reads c
+-- ---- any other
+
+trace-wide-requires-2 : tie.Need-trace-wide-requires-2
+trace-wide-requires-2 c κs = wide-or-not _ (sym (c .before .is-narrow .ensures) ∙ c .if1 .left)
 
 returns-2 : tie.Need-returns-2
-returns-2 c =
-    let tested = c .before in
-    let at = tested .before .before in
-    let bytes = now (start at .args .frame) in
-    shown-read (given at) bytes 26 (number-broken (given at) bytes (sym (is-broken at) ∙ c .if2 .taken))
-    (reads (tested .before)) _ _ (tested .ready .ensures .0) (tested .ready .ensures .1)
-
--- 26 does not apply
-whole : (c : tie.Else2) → broken (given (c .before .before .before)) ≡ false
-whole c = sym (is-broken (c .before .before .before)) ∙ c .if2 .left
-
-message-number-requires : tie.Need-message-number-requires
-message-number-requires c κs =
-    let tested = c .before .before in
-    let at = tested .before .before in
-    (reads (tested .before), search needs, valid-kept (lent at) (broken-false (given at) (whole (c .before))))
-
-returns-3 : tie.Need-returns-3
-returns-3 c =
-    let tested = c .before .before .before in
-    let at = tested .before .before in
-    let bytes = now (start at .args .frame) in
-    let read = reads (tested .before) in
-    let number = c .message-number .ensures ∙ ap firstOf (checks-asking _ _ _ _ _ _ _ _ _) ∙ number-read (given at) bytes (whole (c .before .before)) read in
-    shown-read (given at) bytes _ number read _ _ (tested .ready .ensures .0) (tested .ready .ensures .1)
+returns-2 c = c .trace-wide2 .ensures
 
 pub panel-trace-parts-spec : {M : Type 1} → statement M
 panel-trace-parts-spec =
     tie.close
     (tie.spec
-    broken-requires
-    frame-check-requires
-    unread-number-requires
+    is-narrow-requires
+    slice-aggregate-widen
+    widen-requires
+    slice-aggregate-first
+    first-requires
+    trace-wide-requires
     returns
-    ready-requires
-    returns-2
-    message-number-requires
-    returns-3)
+    trace-wide-requires-2
+    returns-2)

@@ -10,23 +10,23 @@ use Rattle.numbers.specs.Numbers.{bigEndian}
 use Rattle.numbers.specs.Buffer.{over}
 use Rattle.numbers.proofs.BigEndian.{length-bigEndian}
 use Rattle.numbers.proofs.Over.{over-over, length-over}
-use Rattle.frame.specs.Frame.{mark}
+use Rattle.frame.specs.Frame.{mark, versionOf, wide}
 use Rattle.writing.proofs.Written.{over-byte}
 use Rattle.writing.proofs.put_head.Statement.{statement}
 use Rattle.writing.proofs.put_head.Tie as tie
 
 -- what stands in the buffer once mark and version, the source, and the deadline have been put
 abbrev head1 : List ℕ
-head1 = bigEndian 3 mark ++ bigEndian 2 1
+head1 = bigEndian 3 mark ++ bigEndian 2 (versionOf wide)
 
 abbrev head2 : ℕ → List ℕ
 head2 source = head1 ++ bigEndian 1 source
 
 abbrev head3 : ℕ → ℕ → List ℕ
-head3 source deadline = head2 source ++ bigEndian 4 deadline
+head3 source deadline = head2 source ++ bigEndian wide deadline
 
 -- mark and version as one number
-begun : bigEndian 5 0x4452590001 ≡ head1
+begun : bigEndian 5 0x4452590002 ≡ head1
 unfolding bigEndian
 begun = refl
 
@@ -36,7 +36,7 @@ behind : (buffer xs : List ℕ) (at width n : ℕ) → at ≡ length xs → at +
 behind buffer xs at width n e h = over-over buffer 0 xs at (bigEndian width n) (omega arith) (omega (arith, length-bigEndian width n))
 
 -- the source, which is stored, goes behind mark and version
-sourced : (buffer : List ℕ) (source : ℕ) → 18 ≤ length buffer → set (over buffer 0 (bigEndian 5 0x4452590001)) 5 source ≡ over buffer 0 (head2 source)
+sourced : (buffer : List ℕ) (source : ℕ) → 14 + wide ≤ length buffer → set (over buffer 0 (bigEndian 5 0x4452590002)) 5 source ≡ over buffer 0 (head2 source)
 sourced buffer source h =
     let five : length head1 ≡ 5 = simp (length-append, length-bigEndian) in
     ap (λ (l : List ℕ). set (over buffer 0 l) 5 source) begun
@@ -65,8 +65,8 @@ put2 : (c : tie.After-slice-known3)
 put2 c =
     let s = start2 c in
     c .before .before .put-number2 .ensures
-    ∙ ap (λ (l : List ℕ). over l 6 (bigEndian 4 (s .args .deadline))) (put1 (c .before .before .before .before))
-    ∙ behind (now (s .args .buffer)) (head2 (s .args .source)) 6 4 (s .args .deadline) (simp (length-append, length-bigEndian)) (omega (arith, s .pre))
+    ∙ ap (λ (l : List ℕ). over l 6 (bigEndian wide (s .args .deadline))) (put1 (c .before .before .before .before))
+    ∙ behind (now (s .args .buffer)) (head2 (s .args .source)) 6 wide (s .args .deadline) (simp (length-append, length-bigEndian)) (omega (arith, s .pre))
 
 put-number-requires : tie.Need-put-number-requires
 put-number-requires c κs = search needs
@@ -87,8 +87,8 @@ returns : tie.Need-returns
 returns c =
     let s = start2 (c .before .before .before .before) in
     c .before .before .put-number3 .ensures
-    ∙ ap (λ (l : List ℕ). over l 10 (bigEndian 8 (s .args .mask))) (put2 (c .before .before .before .before))
-    ∙ behind (now (s .args .buffer)) (head3 (s .args .source) (s .args .deadline)) 10 8 (s .args .mask) (simp (length-append, length-bigEndian))
+    ∙ ap (λ (l : List ℕ). over l (6 + wide) (bigEndian 8 (s .args .mask))) (put2 (c .before .before .before .before))
+    ∙ behind (now (s .args .buffer)) (head3 (s .args .source) (s .args .deadline)) (6 + wide) 8 (s .args .mask) (simp (length-append, length-bigEndian))
     (omega (arith, s .pre))
 
 pub put-head-spec : {M : Type 1} → statement M

@@ -5,6 +5,7 @@ use borrow.Author.Tests.{not-true, not-false}
 use native.Mathlib.Omega.{arith}
 use denote.Ref.{now}
 use Rattle.frame.specs.Message.{Message, messageOf}
+use Rattle.frame.specs.Frame.{wide}
 use Rattle.frame.proofs.Readable.{readable-deadline}
 use Rattle.writing.proofs.Tests.{readable-source, readable-entries, readable-payload}
 use Rattle.writing.proofs.readable.Statement.{statement}
@@ -14,10 +15,10 @@ abbrev message : tie.Start → Message
 message c = messageOf (c .args .source) (c .args .deadline) (now (c .args .entries)) (now (c .args .payload))
 
 returns : tie.Need-returns
-returns c = sym (readable-source 4 (message (c .before .before .before)) (c .if1 .taken))
+returns c = sym (readable-source wide (message (c .before .before .before)) (c .if1 .taken))
 
 returns-2 : tie.Need-returns-2
-returns-2 c = sym (readable-deadline 4 (message (c .before .before .before .before)) (c .if2 .taken))
+returns-2 c = sym (readable-deadline wide (message (c .before .before .before .before)) (c .if2 .taken))
 
 each-below-requires : tie.Need-each-below-requires
 each-below-requires c κs = search needs
@@ -25,7 +26,7 @@ each-below-requires c κs = search needs
 returns-3 : tie.Need-returns-3
 returns-3 c =
     sym
-    (readable-entries 4 (message (c .before .before .before .before .before .before))
+    (readable-entries wide (message (c .before .before .before .before .before .before))
     (sym (c .before .each-below .ensures) ∙ not-true _ (c .if3 .taken)))
 
 returns-4 : tie.Need-returns-4
@@ -33,7 +34,7 @@ returns-4 c =
     let past2 = c .before .before in
     let known = past2 .before .before in
     let start = known .before .before in
-    readable-payload 4 (message start) (past2 .before .if1 .left) (past2 .if2 .left) (omega arith) (start .pre)
+    readable-payload wide (message start) (past2 .before .if1 .left) (past2 .if2 .left) (omega arith) (start .pre)
     (sym (c .before .each-below .ensures) ∙ not-false _ (c .if3 .left))
     (λ i. omega (arith, known .shared-slice-known2 .given i))
 

@@ -13,6 +13,7 @@ use borrow.Author.Tests.{le-leb}
 use Rattle.numbers.specs.Numbers.{numberAt}
 use Rattle.frame.specs.Reading.{maskIn, messageIn}
 use Rattle.frame.proofs.Passed.{zero-passed, maskOf-passed}
+use Rattle.rules.specs.Sizes.{width}
 use Rattle.rules.specs.Panel.{met, lapsed, eachPanel, ready}
 use Rattle.visits.specs.Visiting.{visits, onesOf}
 use Rattle.rules.proofs.Ready.{eachPanel-true}
@@ -46,7 +47,7 @@ module _ (bs marks : List ℕ) (time floor : ℕ) where
       ap (λ (k : ℕ). eachPanel k metAt) same ∙ metAt-skip (suc panel) n (λ k above lt. none k (omega arith) (omega arith)) (rw (e, here))
 
   -- one entry that is not met
-  ready-unmet : (panel : ℕ) → panel < 64 → metAt panel ≡ false → ready (asking marks time floor) (messageIn 4 bs) ≡ false
+  ready-unmet : (panel : ℕ) → panel < 64 → metAt panel ≡ false → ready (asking marks time floor) (messageIn width bs) ≡ false
   unfolding ready
   ready-unmet panel below f = go (eachPanel 64 metAt) refl
     where
@@ -55,8 +56,8 @@ module _ (bs marks : List ℕ) (time floor : ℕ) where
       go false e = refl
 
 -- the ones of the message's mask
-mask-ones : (bs : List ℕ) → Reads bs → maskIn 4 bs < 2 ^ 64 → onesOf (messageIn 4 bs) ≡ onesIn 64 (maskIn 4 bs)
-mask-ones bs reads fits = ap (onesIn 64) (maskOf-passed 4 bs (zero-passed 4 bs reads) fits)
+mask-ones : (bs : List ℕ) → Reads bs → maskIn width bs < 2 ^ 64 → onesOf (messageIn width bs) ≡ onesIn 64 (maskIn width bs)
+mask-ones bs reads fits = ap (onesIn 64) (maskOf-passed width bs (zero-passed width bs reads) fits)
 
 -- ---- the loop
 
@@ -66,13 +67,13 @@ pub record MetBelow (bs marks : List ℕ) (time floor bits visited : ℕ) : Type
   pub all-met : eachPanel (walk .panel) (metAt bs marks time floor) ≡ true
 
 module _ (bs marks : List ℕ) (time floor : ℕ) where
-  pub met-start : maskIn 4 bs < 2 ^ 64 → MetBelow bs marks time floor (maskIn 4 bs) 0
+  pub met-start : maskIn width bs < 2 ^ 64 → MetBelow bs marks time floor (maskIn width bs) 0
   unfolding eachPanel
   met-start fits = record { walk = walk-start bs fits; all-met = refl }
 
 -- no bit is left
 module _ (bs marks : List ℕ) (time floor bits visited : ℕ) (m : MetBelow bs marks time floor bits visited) (none : bits ≡ 0) where
-  pub end-ready : ready (asking marks time floor) (messageIn 4 bs) ≡ true
+  pub end-ready : ready (asking marks time floor) (messageIn width bs) ≡ true
   unfolding ready
   end-ready =
       let panel = m .walk .panel in
@@ -81,17 +82,17 @@ module _ (bs marks : List ℕ) (time floor bits visited : ℕ) (m : MetBelow bs 
       ∙ metAt-skip bs marks time floor panel (64 - panel) (λ k above lt. end-none (m .walk) none k above) (m .all-met)
 
   -- all were visited
-  pub end-visits : Reads bs → visited ≡ visits (asking marks time floor) (messageIn 4 bs)
+  pub end-visits : Reads bs → visited ≡ visits (asking marks time floor) (messageIn width bs)
   end-visits reads =
-      omega (arith, end-passed (m .walk) none, mask-ones bs reads (m .walk .fits), visits-counted (asking marks time floor) (messageIn 4 bs) (length-entries bs) .all-met end-ready)
+      omega (arith, end-passed (m .walk) none, mask-ones bs reads (m .walk .fits), visits-counted (asking marks time floor) (messageIn width bs) (length-entries bs) .all-met end-ready)
 
 -- a turn, to the next panel whose bit is set
 module _ (bs marks : List ℕ) (time floor bits visited : ℕ) (m : MetBelow bs marks time floor bits visited) (some : bits ≡ 0 → ⊥) where
   abbrev pub metNow : Bool
-  metNow = metBy (getD marks (next bits) 0) time floor (numberAt bs (18 + 4 * visited) 4)
+  metNow = metBy (getD marks (next bits) 0) time floor (numberAt bs (14 + width + width * visited) width)
 
   turn-met : metAt bs marks time floor (next bits) ≡ metNow
-  turn-met = metAt-entry bs marks time floor (next bits) (numberAt bs (18 + 4 * visited) 4) (turn-entry (m .walk) some)
+  turn-met = metAt-entry bs marks time floor (next bits) (numberAt bs (14 + width + width * visited) width) (turn-entry (m .walk) some)
 
   -- the entries of the panels before it are met
   all-before : eachPanel (next bits) (metAt bs marks time floor) ≡ true
@@ -102,13 +103,13 @@ module _ (bs marks : List ℕ) (time floor bits visited : ℕ) (m : MetBelow bs 
       ∙ metAt-skip bs marks time floor panel (next bits - panel) (λ k above lt. turn-skips (m .walk) some k above (omega (arith, reached))) (m .all-met)
 
   -- it is not met: the test stops, and has visited it
-  pub stop-ready : metNow ≡ false → ready (asking marks time floor) (messageIn 4 bs) ≡ false
+  pub stop-ready : metNow ≡ false → ready (asking marks time floor) (messageIn width bs) ≡ false
   stop-ready f = ready-unmet bs marks time floor (next bits) (turn-lt (m .walk) some) (turn-met ∙ f)
 
-  pub stop-visits : Reads bs → metNow ≡ false → visited + 1 ≡ visits (asking marks time floor) (messageIn 4 bs)
+  pub stop-visits : Reads bs → metNow ≡ false → visited + 1 ≡ visits (asking marks time floor) (messageIn width bs)
   stop-visits reads f =
-      let stop = visits-stop (asking marks time floor) (messageIn 4 bs) (next bits) all-before (turn-met ∙ f) in
-      omega (arith, turn-passed (m .walk) some, ap (onesIn (next bits)) (maskOf-passed 4 bs (zero-passed 4 bs reads) (m .walk .fits)), stop)
+      let stop = visits-stop (asking marks time floor) (messageIn width bs) (next bits) all-before (turn-met ∙ f) in
+      omega (arith, turn-passed (m .walk) some, ap (onesIn (next bits)) (maskOf-passed width bs (zero-passed width bs reads) (m .walk .fits)), stop)
 
   -- it is met: the test goes on
   pub turn-on : metNow ≡ true → MetBelow bs marks time floor (bitAnd bits (bits - 1)) (visited + 1)

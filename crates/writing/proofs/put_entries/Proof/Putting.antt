@@ -12,6 +12,7 @@ use Rattle.numbers.specs.Buffer.{over}
 use Rattle.numbers.proofs.BigEndian.{length-bigEndian, length-bigEndians, bigEndians-snoc}
 use Rattle.numbers.proofs.Over.{over-nil, over-over, length-over}
 use Rattle.frame.specs.Message.{present}
+use Rattle.frame.specs.Frame.{wide}
 use Rattle.writing.proofs.Entries.{present-take-none, present-take-entry, present-take-le, present-take-all}
 
 -- the entries of the panels below s are in buffer, which was buffer₀, from place start on, and at is the place behind them
@@ -26,13 +27,13 @@ module _ (width : ℕ) (buffer₀ : List ℕ) (start : ℕ) (es : List ℕ) wher
   unfolding present bigEndians
   put-none = record { below = omega arith; place = rw mul-zero (omega arith); bytes = sym (over-nil buffer₀ start); same = refl }
 
-module _ (buffer₀ : List ℕ) (start : ℕ) (es buffer : List ℕ) (at s : ℕ) (p : Put 4 buffer₀ start es buffer at s) where
-  pub put-all : start + 4 * length (present es) ≤ at → buffer ≡ over buffer₀ start (bigEndians 4 (present es))
+module _ (buffer₀ : List ℕ) (start : ℕ) (es buffer : List ℕ) (at s : ℕ) (p : Put wide buffer₀ start es buffer at s) where
+  pub put-all : start + wide * length (present es) ≤ at → buffer ≡ over buffer₀ start (bigEndians wide (present es))
   put-all h =
-      p .bytes ∙ ap (λ (l : List ℕ). over buffer₀ start (bigEndians 4 l)) (present-take-all es s (omega (arith, p .place)))
+      p .bytes ∙ ap (λ (l : List ℕ). over buffer₀ start (bigEndians wide l)) (present-take-all es s (omega (arith, p .place)))
 
   -- where not all are put, a panel is left
-  pub put-more : at < start + 4 * length (present es) → s < length es
+  pub put-more : at < start + wide * length (present es) → s < length es
   put-more h = lt-of-not-le (λ (all : length es ≤ s). omega (arith, p .place, ap (λ (l : List ℕ). length (present l)) (take-all s es all)))
 
 module _ (width : ℕ) (buffer₀ : List ℕ) (start : ℕ) (es buffer : List ℕ) (at s : ℕ)

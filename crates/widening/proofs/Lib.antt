@@ -1,0 +1,2 @@
+-- Laws of widening.
+pub mod Widened

@@ -10,10 +10,11 @@
  * message is ready. panel_log_record reads a log, panel_bundle_next a bundle of frames, and
  * panel_frame_check looks at the bytes of a frame alone.
  *
- * Example, a whole program. It prints "3 7200 OK" and "21 bytes to pass on". Compile it with
+ * Example, a whole program. It prints "3 7200 OK" and "25 bytes to pass on". Compile it with
  * cc program.c $(pkg-config --cflags --libs panel)   (-lpanel alone may find ncurses' libpanel).
  *
  *     #include <panel.h>
+ *     #include <inttypes.h>
  *     #include <stdio.h>
  *
  *     static Panel panel;                        // the record, kept from call to call
@@ -33,7 +34,7 @@
  *         }
  *         for (size_t i = 0; i < sent.count; i++) {
  *             PanelLogRecord record = panel_log_record(output, sizeof output, i);
- *             printf("%u %u %.*s\n", record.source, record.deadline, record.length,
+ *             printf("%u %" PRIu64 " %.*s\n", record.source, record.deadline, record.length,
  *                    (const char *)record.payload);
  *         }
  *         printf("%zu bytes to pass on\n", sent.length);
@@ -61,13 +62,28 @@
  * send, which empties the barrier: no message that waits, is dropped or is refused, and no time.
  * Handing may also raise the floor of the record (see below, setting a clock back).
  *
- * Old and new panels. A panel of version 0.6 has no floor, and its clock can't be set back; one of
- * version 0.5 also removes nothing as it hands a message, and so sends longer frames. In all else
- * they are as this one: without a set back the floor makes no difference. They can share a farm:
- * each reads the frames of the others, no setting is needed, and the causal order of the logs holds
- * in every mixture. A panel can't go on with the record that an older version left: it has no floor
- * (PANEL_VERSION). Give it a fresh record, with a number that no panel of the farm has had. (Panels
- * before 0.5 differ in more: they take deadlines far ahead.)
+ * Versions of frames. In a frame of version 1 the deadline and each entry have 4 bytes, in one of
+ * version 2 they have 8. Send and beacon write version 2. Receive, trace and frame check read both.
+ * A frame of version 1 carries the same message as that of version 2 with the same numbers, and
+ * waits in its slot as the latter. So a record keeps no version, and both versions of a message are
+ * one message: the one that comes second is refused with 22, as a copy is. A frame of version 1 in
+ * a slot, where no call puts one, is no readable frame there (26).
+ *
+ * Coming from version 0.7. Times and deadlines are uint64_t and may be above 4,294,967,295, so a
+ * program keeps them in 64 bits, and prints them with PRIu64; the last is PANEL_DEADLINE_MAX.
+ * Output, frame buffer, log record and record are larger: where a program has their sizes by name,
+ * nothing else changes. Records and logs that 0.7 saved are not read (PANEL_VERSION), its frames
+ * and bundles are.
+ *
+ * Old and new panels. A panel of version 0.7 or before reads frames of version 1 alone, and sends
+ * them: this panel hears it, and it refuses the frames of this panel with 3. One of version 0.6
+ * also has no floor, and its clock can't be set back; one of version 0.5 also removes nothing as it
+ * hands a message, and so sends longer frames. In all else they are as this one: without a set back
+ * the floor makes no difference. They can share a farm: no setting is needed, and the causal order
+ * of the logs holds in every mixture, as an old panel neither logs nor names what it refuses. A
+ * panel can't go on with the record that an older version left (PANEL_VERSION). Give it a fresh
+ * record, with a number that no panel of the farm has had. (Panels before 0.5 differ in more: they
+ * take deadlines far ahead.)
  *
  * Deadlines far ahead. A panel with a wrong year would keep dead notes alive for everybody, so a
  * receive refuses, with 32, a deadline above time + PANEL_FARTHEST_AHEAD.
@@ -97,7 +113,7 @@
  *   went without), the panel stays deaf until then.
  * - The deadlines of own sends stay above high. If a message of the wrong year is in the log, they
  *   are far ahead, and the other panels refuse them with 32 until their time is near enough; above
- *   4,294,967,295 the send itself is refused with 24.
+ *   PANEL_DEADLINE_MAX the send itself is refused with 24.
  * - No call lowers floor or high. A panel that they leave deaf or unheard needs a fresh record,
  *   with a number that no panel of the farm has had.
  * - Messages that wait stay, and keep their places, however far ahead they are by the lower time.
@@ -144,17 +160,20 @@ extern "C" {
 /* ---- Version ---- */
 
 /* Major 0, as the layout of the record still changes with coming versions: a record that another
-   version saved is not to be read. 0.7 reads none of 0.6 or before: they have no floor, and another
-   size. Frames, bundles and logs keep the form of document 01. */
+   version saved is not to be read. 0.8 reads none of 0.7 or before: their numbers have 32 bits, and
+   those before 0.7 have no floor. Nor does it read their logs, whose log records have 38 bytes. */
 #define PANEL_VERSION_MAJOR 0
-#define PANEL_VERSION_MINOR 7
+#define PANEL_VERSION_MINOR 8
 #define PANEL_VERSION_PATCH 0
-#define PANEL_VERSION "0.7.0"
+#define PANEL_VERSION "0.8.0"
 
 /* ---- Sizes ---- */
 
 /* The stack that a call takes, at most; tests/stack.c measures it. */
 #define PANEL_STACK_BYTES 8192
+
+/* The last deadline: 18,446,744,073,709,551,615. */
+#define PANEL_DEADLINE_MAX UINT64_MAX
 
 enum {
     PANEL_PANELS = 64,              /* panels of a farm, numbered from 0 */
@@ -164,20 +183,35 @@ enum {
     PANEL_LIFETIME_BEACON = 1200,   /* seconds of a beacon's lifetime */
     PANEL_FARTHEST_AHEAD = 1209600, /* seconds that a received deadline may be ahead of the time:
                                        14 days */
-    PANEL_FRAME_MIN = 19,           /* bytes of the shortest frame */
-    PANEL_FRAME_MAX = 307,          /* bytes of the longest, and of the frame buffer at least */
-    PANEL_OUTPUT_MIN = 1254,        /* bytes of the output at least: 33 log records */
-    PANEL_SLOT_BYTES = 309,         /* a slot: the length of a frame in 16 bits, then the frame */
-    PANEL_SLOTS_BYTES = 9888        /* 32 slots */
+    PANEL_OUTPUT_MIN = 1386,        /* bytes of the output at least: 33 log records */
+    PANEL_SLOT_BYTES = 569,         /* a slot: the length of a frame in 16 bits, then the frame */
+    PANEL_SLOTS_BYTES = 18208       /* 32 slots */
 };
 
-/* A log record, and where its parts stand. Numbers have the highest byte first, as in a frame. */
+/* A frame, and where its parts stand. Numbers have the highest byte first. A part of version 1 that
+   stands elsewhere, or has another size, has a name with 1. */
 enum {
-    PANEL_LOG_RECORD = 38,     /* bytes of a log record */
+    PANEL_FRAME_MIN = 19,         /* bytes of the shortest frame, of version 1 */
+    PANEL_FRAME_1_MAX = 307,      /* bytes of the longest of version 1 */
+    PANEL_FRAME_2_MIN = 23,       /* bytes of the shortest of version 2 */
+    PANEL_FRAME_MAX = 567,        /* bytes of the longest, and of the frame buffer at least */
+    PANEL_FRAME_VERSION_AT = 3,   /* 2 bytes, behind the mark: 1 or 2 */
+    PANEL_FRAME_SOURCE_AT = 5,    /* 1 byte */
+    PANEL_FRAME_DEADLINE_AT = 6,  /* 8 bytes, in version 1 4 bytes */
+    PANEL_FRAME_MASK_AT = 14,     /* 8 bytes */
+    PANEL_FRAME_1_MASK_AT = 10,   /* 8 bytes */
+    PANEL_FRAME_ENTRIES_AT = 22,  /* 8 bytes each; then 1 byte, the length of the payload, which
+                                     stands behind it */
+    PANEL_FRAME_1_ENTRIES_AT = 18 /* 4 bytes each; then the same */
+};
+
+/* A log record, and where its parts stand, as in a frame. */
+enum {
+    PANEL_LOG_RECORD = 42,     /* bytes of a log record */
     PANEL_LOG_SOURCE_AT = 0,   /* 1 byte */
-    PANEL_LOG_DEADLINE_AT = 1, /* 4 bytes */
-    PANEL_LOG_LENGTH_AT = 5,   /* 1 byte, the length of the payload */
-    PANEL_LOG_PAYLOAD_AT = 6   /* 32 bytes, zeros after the payload's end */
+    PANEL_LOG_DEADLINE_AT = 1, /* 8 bytes */
+    PANEL_LOG_LENGTH_AT = 9,   /* 1 byte, the length of the payload */
+    PANEL_LOG_PAYLOAD_AT = 10  /* 32 bytes, zeros after the payload's end */
 };
 
 /* ---- Numbers ---- */
@@ -188,18 +222,19 @@ typedef enum PanelNumber {
     PANEL_ACCEPTED = 0,
 
     /* because of the input */
-    PANEL_REFUSED_FRAME_SHORT = 1,          /* fewer than 19 bytes, or too few for the entries and
-                                               the length byte, or too few for the payload */
+    PANEL_REFUSED_FRAME_SHORT = 1,          /* fewer than 19 bytes, or in version 2 fewer than 23,
+                                               or too few for the entries and the length byte, or
+                                               too few for the payload */
     PANEL_REFUSED_FRAME_MARK = 2,           /* mark: not hexadecimal 44 52 59 */
-    PANEL_REFUSED_FRAME_VERSION = 3,        /* version: not 1 */
+    PANEL_REFUSED_FRAME_VERSION = 3,        /* version: not 1 or 2 */
     PANEL_REFUSED_FRAME_SOURCE = 4,         /* source: not 0 to 63 */
     PANEL_REFUSED_FRAME_DEADLINE = 5,       /* deadline 0 */
     PANEL_REFUSED_FRAME_ENTRY = 6,          /* entries: not each 1 or more and below the deadline */
     PANEL_REFUSED_FRAME_PAYLOAD_LENGTH = 7, /* payload length: not 0 to 32 */
     PANEL_REFUSED_FRAME_LEFT_OVER = 8,      /* bytes left over */
     PANEL_REFUSED_PAYLOAD_LONG = 9,         /* payload to send longer than 32 */
-    PANEL_REFUSED_BUFFER_SHORT = 10,        /* output under 1,254 bytes, or the frame buffer of a
-                                               send under 307 */
+    PANEL_REFUSED_BUFFER_SHORT = 10,        /* output under 1,386 bytes, or the frame buffer of a
+                                               send under 567 */
     PANEL_REFUSED_PANEL_NUMBER = 11,        /* a panel number above 63 asked of a fresh panel */
 
     /* because of the state; 32 is looked at directly after 21 */
@@ -209,7 +244,8 @@ typedef enum PanelNumber {
     PANEL_REFUSED_HAD_ALREADY = 22,       /* its deadline is at most its source's mark, or it is
                                              waiting already */
     PANEL_REFUSED_LIST_FULL = 23,         /* 32 are waiting and this one is not ready */
-    PANEL_REFUSED_DEADLINE_TOO_HIGH = 24, /* the deadline of a send would pass 4,294,967,295 */
+    PANEL_REFUSED_DEADLINE_TOO_HIGH = 24, /* the deadline of a send would pass
+                                             18,446,744,073,709,551,615 */
     PANEL_REFUSED_CLOCK_BACK = 25,        /* the clock reading is below the panel's time */
     PANEL_REFUSED_RECORD_BROKEN = 26,     /* the record has an own number above 63, a mark or
                                              barrier entry above high, over 32 waiting, or a
@@ -235,23 +271,23 @@ static inline const char *panel_number_text(PanelNumber number);
 /* Any field may be read; only the calls change it. Times and deadlines are whole seconds. */
 typedef struct Panel {
     uint8_t own;                      /* own number */
-    uint32_t time;                    /* the last clock reading that was accepted, or the lower
+    uint64_t time;                    /* the last clock reading that was accepted, or the lower
                                          reading of a set back since; at first 0 */
-    uint32_t high;                    /* the largest deadline in the log, or 0 */
+    uint64_t high;                    /* the largest deadline in the log, or 0 */
     size_t count;                     /* how many messages are waiting */
-    uint32_t marks[PANEL_PANELS];     /* the largest deadline in the log from each source, or 0 */
-    uint32_t barrier[PANEL_PANELS];   /* the entries that the next frame carries, or 0 */
-    uint8_t slots[PANEL_SLOTS_BYTES]; /* the frames of the waiting messages, in the order taken;
-                                         what stands behind them is no part of the record */
-    uint32_t floor;                   /* the largest deadline of a message before one of the log
+    uint64_t marks[PANEL_PANELS];     /* the largest deadline in the log from each source, or 0 */
+    uint64_t barrier[PANEL_PANELS];   /* the entries that the next frame carries, or 0 */
+    uint8_t slots[PANEL_SLOTS_BYTES]; /* the frames of the waiting messages, of version 2, in the
+                                         order taken; what stands behind them is no part of the
+                                         record */
+    uint64_t floor;                   /* the largest deadline of a message before one of the log
                                          in cause and not in it, or 0 */
 } Panel;
 
 /*
  * Makes a fresh panel: time 0, high 0, all marks and barrier entries 0, nothing waiting, floor 0.
- * It sets every byte of the record, those between the fields and behind them too, whatever was
- * there. Give it a clock reading before the first frame is received (see above, deadlines far
- * ahead).
+ * It sets every byte of the record, those between the fields too, whatever was there. Give it a
+ * clock reading before the first frame is received (see above, deadlines far ahead).
  * Refused with 11; the record is then a fresh panel 0.
  */
 PANEL_ANSWER PANEL_NOT_NULL
@@ -269,10 +305,10 @@ typedef struct PanelAnswer {
 /*
  * Sends a payload of 0 to 32 bytes. The deadline of the message is the larger of time + lifetime
  * (0 means PANEL_LIFETIME_DEFAULT) and high + 1, however far ahead that is. Its frame stands at the
- * start of the frame buffer, `length` bytes, and carries the barrier entries as they were, each in
- * 4 bytes. Then the barrier is emptied, the own message is handed, and the panel settles: `count`
- * log records, 1 to 33, stand one after another from the start of the output, the own message
- * first. Bytes behind the frame and behind the log records keep their content.
+ * start of the frame buffer, `length` bytes of version 2, and carries the barrier entries as they
+ * were, each in 8 bytes. Then the barrier is emptied, the own message is handed, and the panel
+ * settles: `count` log records, 1 to 33, stand one after another from the start of the output, the
+ * own message first. Bytes behind the frame and behind the log records keep their content.
  * Refused with the first of 26, 10, 9, 24 that applies.
  */
 PANEL_ANSWER PANEL_NOT_NULL
@@ -293,8 +329,9 @@ static inline PanelAnswer panel_beacon(Panel *panel, const uint8_t *payload, siz
                                        size_t frame_length);
 
 /*
- * Receives a frame, whole or damaged, of any length. Its message is handed if it is ready, that is
- * if for each entry the panel has had that message or the entry has lapsed; otherwise it waits.
+ * Receives a frame of either version, whole or damaged, of any length. Its message is handed if it
+ * is ready, that is if for each entry the panel has had that message or the entry has lapsed;
+ * otherwise it waits.
  * Then the panel settles: `count` log records, 0 to 33, stand one after another from the start of
  * the output, and the bytes behind them keep their content.
  * Refused with the first of 26, 10, 1 to 8 as by panel_frame_check, 20, 21, 32, 22, 23 that
@@ -315,7 +352,7 @@ static inline PanelAnswer panel_receive(Panel *panel, const uint8_t *frame, size
  * is wrong and above the right one is lowered by panel_set_back.
  */
 PANEL_ANSWER PANEL_NOT_NULL
-static inline PanelAnswer panel_clock(Panel *panel, uint32_t time, uint8_t *output,
+static inline PanelAnswer panel_clock(Panel *panel, uint64_t time, uint8_t *output,
                                       size_t output_length);
 
 /* ---- Setting a clock back ---- */
@@ -330,7 +367,7 @@ static inline PanelAnswer panel_clock(Panel *panel, uint32_t time, uint8_t *outp
  * Refused with 26.
  */
 PANEL_ANSWER PANEL_NOT_NULL
-static inline PanelNumber panel_set_back(Panel *panel, uint32_t reading);
+static inline PanelNumber panel_set_back(Panel *panel, uint64_t reading);
 
 /* ---- Trace ---- */
 
@@ -341,15 +378,17 @@ typedef struct PanelTrace {
 } PanelTrace;
 
 /*
- * Tells what would become of a frame, whole or damaged, of any length. It changes nothing.
+ * Tells what would become of a frame of either version, whole or damaged, of any length. It changes
+ * nothing.
  * The number is the first of 26, 1 to 8 as by panel_frame_check, 20, 21, 32, 22, 23 that applies:
  * the number that panel_receive would answer with this frame and an output of PANEL_OUTPUT_MIN
  * bytes.
  * An entry is met if the mark of its panel is at least the entry, or if the entry has lapsed. The
  * test for ready goes from one set bit of the frame's mask to the next, lowest panel first, up to
  * the first entry that is not met, that one included, or through all. So where the message is not
- * ready, the entry at which it stopped is the visited-th set bit of the frame's mask, counted from
- * the lowest: of that panel the record lacks this message, and has had no later one.
+ * ready, the entry at which it stopped is the visited-th set bit of the frame's mask (from
+ * PANEL_FRAME_MASK_AT or PANEL_FRAME_1_MASK_AT on), counted from the lowest: of that panel the
+ * record lacks this message, and has had no later one.
  * `ready` and `visited` are answered whatever the number is, with 26 too, by the marks, the time
  * and the floor of the record. For bytes that panel_frame_check turns down they are false and 0.
  */
@@ -359,17 +398,17 @@ static inline PanelTrace panel_trace(const Panel *panel, const uint8_t *frame, s
 /* ---- Frames, logs and bundles ---- */
 
 /*
- * 0 for the bytes of a frame, or the number of the first check that applies: fewer than 19 bytes
- * (1), mark (2), version (3), source (4), deadline 0 (5), too few bytes for the entries and the
- * length byte (1), entries (6), payload length (7), too few bytes for the payload (1), bytes left
- * over (8).
+ * 0 for the bytes of a frame of version 1 or 2, or the number of the first check that applies:
+ * fewer than 19 bytes (1), mark (2), version neither 1 nor 2 (3), in version 2 fewer than 23 bytes
+ * (1), source (4), deadline 0 (5), too few bytes for the entries and the length byte (1), entries
+ * (6), payload length (7), too few bytes for the payload (1), bytes left over (8).
  */
 PANEL_ANSWER PANEL_NOT_NULL
 static inline PanelNumber panel_frame_check(const uint8_t *frame, size_t frame_length);
 
 typedef struct PanelLogRecord {
     const uint8_t *payload; /* in the log */
-    uint32_t deadline;      /* 0: there is no such record */
+    uint64_t deadline;      /* 0: there is no such record */
     uint8_t source;
     uint8_t length;         /* bytes of the payload, 0 to 32 */
 } PanelLogRecord;
@@ -411,7 +450,8 @@ static inline PanelBundleStep panel_bundle_next(PanelBundle *bundle, const uint8
 
 /* ==== For this header alone: the archive's functions. They are not to be called. ==== */
 
-/* They take a record in its parts: marks and barrier are 64 numbers, slots 9,888 bytes. */
+/* They take a record in its parts: marks and barrier are PANEL_PANELS numbers, slots
+   PANEL_SLOTS_BYTES bytes. */
 
 typedef struct PanelPartsAnswer {
     size_t count;
@@ -426,7 +466,7 @@ typedef struct PanelTraceParts {
 } PanelTraceParts;
 
 typedef struct PanelLogParts {
-    uint32_t deadline;
+    uint64_t deadline;
     uint8_t source;
     uint8_t length;
 } PanelLogParts;
@@ -439,45 +479,45 @@ typedef struct PanelBundleParts {
 } PanelBundleParts;
 
 PANEL_NOT_NULL
-uint8_t panel_fresh_parts(uint8_t number, uint8_t *own, uint32_t *time, uint32_t *high,
-                          size_t *count, uint32_t *marks, uint32_t *barrier, uint8_t *slots,
-                          uint32_t *floor);
+uint8_t panel_fresh_parts(uint8_t number, uint8_t *own, uint64_t *time, uint64_t *high,
+                          size_t *count, uint64_t *marks, uint64_t *barrier, uint8_t *slots,
+                          uint64_t *floor);
 
 PANEL_NOT_NULL
-PanelPartsAnswer panel_send_parts(uint8_t own, uint32_t time, uint32_t *high, size_t *count,
-                                  uint32_t *marks, uint32_t *barrier, uint8_t *slots,
-                                  uint32_t *floor, const uint8_t *payload, size_t payload_length,
+PanelPartsAnswer panel_send_parts(uint8_t own, uint64_t time, uint64_t *high, size_t *count,
+                                  uint64_t *marks, uint64_t *barrier, uint8_t *slots,
+                                  uint64_t *floor, const uint8_t *payload, size_t payload_length,
                                   uint16_t lifetime, uint8_t *output, size_t output_length,
                                   uint8_t *frame, size_t frame_length);
 
 PANEL_NOT_NULL
-PanelPartsAnswer panel_beacon_parts(uint8_t own, uint32_t time, uint32_t *high, size_t *count,
-                                    uint32_t *marks, uint32_t *barrier, uint8_t *slots,
-                                    uint32_t *floor, const uint8_t *payload, size_t payload_length,
+PanelPartsAnswer panel_beacon_parts(uint8_t own, uint64_t time, uint64_t *high, size_t *count,
+                                    uint64_t *marks, uint64_t *barrier, uint8_t *slots,
+                                    uint64_t *floor, const uint8_t *payload, size_t payload_length,
                                     uint8_t *output, size_t output_length, uint8_t *frame,
                                     size_t frame_length);
 
 PANEL_NOT_NULL
-PanelPartsAnswer panel_receive_parts(uint8_t own, uint32_t time, uint32_t *high, size_t *count,
-                                     uint32_t *marks, uint32_t *barrier, uint8_t *slots,
-                                     uint32_t *floor, const uint8_t *frame, size_t frame_length,
+PanelPartsAnswer panel_receive_parts(uint8_t own, uint64_t time, uint64_t *high, size_t *count,
+                                     uint64_t *marks, uint64_t *barrier, uint8_t *slots,
+                                     uint64_t *floor, const uint8_t *frame, size_t frame_length,
                                      uint8_t *output, size_t output_length);
 
 PANEL_NOT_NULL
-PanelPartsAnswer panel_clock_parts(uint8_t own, uint32_t *time, uint32_t *high, size_t *count,
-                                   uint32_t *marks, uint32_t *barrier, uint8_t *slots,
-                                   uint32_t *floor, uint32_t reading, uint8_t *output,
+PanelPartsAnswer panel_clock_parts(uint8_t own, uint64_t *time, uint64_t *high, size_t *count,
+                                   uint64_t *marks, uint64_t *barrier, uint8_t *slots,
+                                   uint64_t *floor, uint64_t reading, uint8_t *output,
                                    size_t output_length);
 
 PANEL_NOT_NULL
-uint8_t panel_set_back_parts(uint8_t own, uint32_t *time, uint32_t high, size_t count,
-                             const uint32_t *marks, const uint32_t *barrier, const uint8_t *slots,
-                             uint32_t floor, uint32_t reading);
+uint8_t panel_set_back_parts(uint8_t own, uint64_t *time, uint64_t high, size_t count,
+                             const uint64_t *marks, const uint64_t *barrier, const uint8_t *slots,
+                             uint64_t floor, uint64_t reading);
 
 PANEL_NOT_NULL
-PanelTraceParts panel_trace_parts(uint8_t own, uint32_t time, uint32_t high, size_t count,
-                                  const uint32_t *marks, const uint32_t *barrier,
-                                  const uint8_t *slots, uint32_t floor, const uint8_t *frame,
+PanelTraceParts panel_trace_parts(uint8_t own, uint64_t time, uint64_t high, size_t count,
+                                  const uint64_t *marks, const uint64_t *barrier,
+                                  const uint8_t *slots, uint64_t floor, const uint8_t *frame,
                                   size_t frame_length);
 
 PANEL_NOT_NULL
@@ -504,14 +544,14 @@ PanelBundleParts panel_bundle_step(const uint8_t *bundle, size_t length, size_t 
     PANEL_ASSERT(PANEL_SIZE_OF(type, field) == size, "size of " #type "." #field)
 
 PANEL_FIELD(Panel, own, 0, 1);
-PANEL_FIELD(Panel, time, 4, 4);
-PANEL_FIELD(Panel, high, 8, 4);
-PANEL_FIELD(Panel, count, 16, 8);
-PANEL_FIELD(Panel, marks, 24, 256);
-PANEL_FIELD(Panel, barrier, 280, 256);
-PANEL_FIELD(Panel, slots, 536, 9888);
-PANEL_FIELD(Panel, floor, 10424, 4);
-PANEL_ASSERT(sizeof(Panel) == 10432, "size of Panel");
+PANEL_FIELD(Panel, time, 8, 8);
+PANEL_FIELD(Panel, high, 16, 8);
+PANEL_FIELD(Panel, count, 24, 8);
+PANEL_FIELD(Panel, marks, 32, 512);
+PANEL_FIELD(Panel, barrier, 544, 512);
+PANEL_FIELD(Panel, slots, 1056, PANEL_SLOTS_BYTES);
+PANEL_FIELD(Panel, floor, 19264, 8);
+PANEL_ASSERT(sizeof(Panel) == 19272, "size of Panel");
 
 PANEL_FIELD(PanelPartsAnswer, count, 0, 8);
 PANEL_FIELD(PanelPartsAnswer, length, 8, 8);
@@ -523,10 +563,10 @@ PANEL_FIELD(PanelTraceParts, ready, 8, 1);
 PANEL_FIELD(PanelTraceParts, number, 9, 1);
 PANEL_ASSERT(sizeof(PanelTraceParts) == 16, "size of PanelTraceParts");
 
-PANEL_FIELD(PanelLogParts, deadline, 0, 4);
-PANEL_FIELD(PanelLogParts, source, 4, 1);
-PANEL_FIELD(PanelLogParts, length, 5, 1);
-PANEL_ASSERT(sizeof(PanelLogParts) == 8, "size of PanelLogParts");
+PANEL_FIELD(PanelLogParts, deadline, 0, 8);
+PANEL_FIELD(PanelLogParts, source, 8, 1);
+PANEL_FIELD(PanelLogParts, length, 9, 1);
+PANEL_ASSERT(sizeof(PanelLogParts) == 16, "size of PanelLogParts");
 
 PANEL_FIELD(PanelBundleParts, start, 0, 8);
 PANEL_FIELD(PanelBundleParts, length, 8, 8);
@@ -534,7 +574,15 @@ PANEL_FIELD(PanelBundleParts, next, 16, 8);
 PANEL_FIELD(PanelBundleParts, kind, 24, 1);
 PANEL_ASSERT(sizeof(PanelBundleParts) == 32, "size of PanelBundleParts");
 
+PANEL_ASSERT(PANEL_LOG_PAYLOAD_AT + PANEL_PAYLOAD_MAX == PANEL_LOG_RECORD, "log record");
 PANEL_ASSERT((PANEL_WAITING_MAX + 1) * PANEL_LOG_RECORD == PANEL_OUTPUT_MIN, "output");
+PANEL_ASSERT(PANEL_FRAME_1_ENTRIES_AT + 1 == PANEL_FRAME_MIN, "shortest frame");
+PANEL_ASSERT(PANEL_FRAME_MIN + PANEL_PANELS * 4 + PANEL_PAYLOAD_MAX == PANEL_FRAME_1_MAX,
+             "longest frame of version 1");
+PANEL_ASSERT(PANEL_FRAME_ENTRIES_AT + 1 == PANEL_FRAME_2_MIN, "shortest frame of version 2");
+PANEL_ASSERT(PANEL_FRAME_2_MIN + PANEL_PANELS * 8 + PANEL_PAYLOAD_MAX == PANEL_FRAME_MAX,
+             "longest frame");
+PANEL_ASSERT(2 + PANEL_FRAME_MAX == PANEL_SLOT_BYTES, "slot");
 PANEL_ASSERT(PANEL_WAITING_MAX * PANEL_SLOT_BYTES == PANEL_SLOTS_BYTES, "slots");
 
 #undef PANEL_FIELD
@@ -550,10 +598,10 @@ static inline const char *panel_number_text(PanelNumber number)
     switch (number) {
     case PANEL_ACCEPTED: return "accepted";
     case PANEL_REFUSED_FRAME_SHORT:
-        return "fewer than 19 bytes, or too few for the entries and the length byte, or too few "
-               "for the payload";
+        return "fewer than 19 bytes, or in version 2 fewer than 23, or too few for the entries and "
+               "the length byte, or too few for the payload";
     case PANEL_REFUSED_FRAME_MARK: return "mark: not hexadecimal 44 52 59";
-    case PANEL_REFUSED_FRAME_VERSION: return "version: not 1";
+    case PANEL_REFUSED_FRAME_VERSION: return "version: not 1 or 2";
     case PANEL_REFUSED_FRAME_SOURCE: return "source: not 0 to 63";
     case PANEL_REFUSED_FRAME_DEADLINE: return "deadline 0";
     case PANEL_REFUSED_FRAME_ENTRY: return "entries: not each 1 or more and below the deadline";
@@ -561,7 +609,7 @@ static inline const char *panel_number_text(PanelNumber number)
     case PANEL_REFUSED_FRAME_LEFT_OVER: return "bytes left over";
     case PANEL_REFUSED_PAYLOAD_LONG: return "payload to send longer than 32";
     case PANEL_REFUSED_BUFFER_SHORT:
-        return "output under 1,254 bytes, or the frame buffer of a send under 307";
+        return "output under 1,386 bytes, or the frame buffer of a send under 567";
     case PANEL_REFUSED_PANEL_NUMBER: return "a panel number above 63 asked of a fresh panel";
     case PANEL_REFUSED_OWN_SOURCE: return "the frame's source is the own number";
     case PANEL_REFUSED_LAPSED:
@@ -569,7 +617,8 @@ static inline const char *panel_number_text(PanelNumber number)
     case PANEL_REFUSED_HAD_ALREADY:
         return "its deadline is at most its source's mark, or it is waiting already";
     case PANEL_REFUSED_LIST_FULL: return "32 are waiting and this one is not ready";
-    case PANEL_REFUSED_DEADLINE_TOO_HIGH: return "the deadline of a send would pass 4,294,967,295";
+    case PANEL_REFUSED_DEADLINE_TOO_HIGH:
+        return "the deadline of a send would pass 18,446,744,073,709,551,615";
     case PANEL_REFUSED_CLOCK_BACK: return "the clock reading is below the panel's time";
     case PANEL_REFUSED_RECORD_BROKEN:
         return "the record has an own number above 63, a mark or barrier entry above high, over 32 "
@@ -581,11 +630,7 @@ static inline const char *panel_number_text(PanelNumber number)
 
 static inline PanelNumber panel_fresh(Panel *panel, uint8_t number)
 {
-    size_t end = offsetof(Panel, floor) + sizeof panel->floor;
-
-    /* for the bytes between the fields, and for those behind them */
-    memset(panel, 0, offsetof(Panel, marks));
-    memset((uint8_t *)panel + end, 0, sizeof *panel - end);
+    memset(panel, 0, offsetof(Panel, time)); /* for the bytes between the first two fields */
     return (PanelNumber)panel_fresh_parts(number, &panel->own, &panel->time, &panel->high,
                                           &panel->count, panel->marks, panel->barrier,
                                           panel->slots, &panel->floor);
@@ -626,7 +671,7 @@ static inline PanelAnswer panel_receive(Panel *panel, const uint8_t *frame, size
                                                output_length));
 }
 
-static inline PanelAnswer panel_clock(Panel *panel, uint32_t time, uint8_t *output,
+static inline PanelAnswer panel_clock(Panel *panel, uint64_t time, uint8_t *output,
                                       size_t output_length)
 {
     return panel_answer_of(panel_clock_parts(panel->own, &panel->time, &panel->high, &panel->count,
@@ -634,7 +679,7 @@ static inline PanelAnswer panel_clock(Panel *panel, uint32_t time, uint8_t *outp
                                              &panel->floor, time, output, output_length));
 }
 
-static inline PanelNumber panel_set_back(Panel *panel, uint32_t reading)
+static inline PanelNumber panel_set_back(Panel *panel, uint64_t reading)
 {
     return (PanelNumber)panel_set_back_parts(panel->own, &panel->time, panel->high, panel->count,
                                              panel->marks, panel->barrier, panel->slots,

@@ -5,6 +5,7 @@
  */
 #include <panel.h>
 
+#include <inttypes.h>
 #include <stdio.h>
 #include <stdlib.h>
 #include <string.h>
@@ -24,7 +25,7 @@ typedef struct {
     uint8_t bytes[PANEL_FRAME_MAX];
     size_t length;
     const char *text;
-    uint32_t deadline;
+    uint64_t deadline;
 } Parcel;
 
 /* A tractor cab, and the bundle that it carries. */
@@ -60,7 +61,7 @@ static void keep(Member *member, const uint8_t *output, size_t count)
 }
 
 /* The clock of a panel shows a time. */
-static void set_clock(Member *member, uint32_t time)
+static void set_clock(Member *member, uint64_t time)
 {
     uint8_t output[PANEL_OUTPUT_MIN];
     size_t waiting = member->record.count;
@@ -68,20 +69,20 @@ static void set_clock(Member *member, uint32_t time)
     PanelAnswer answer = panel_clock(&member->record, time, output, sizeof output);
     must_be_accepted("panel_clock", answer.number);
     keep(member, output, answer.count);
-    printf("panel %u sets its time to %u: %zu handed, %zu dropped\n", member->record.own, time,
-           answer.count, waiting - answer.count - member->record.count);
+    printf("panel %u sets its time to %" PRIu64 ": %zu handed, %zu dropped\n", member->record.own,
+           time, answer.count, waiting - answer.count - member->record.count);
 }
 
 /* A technician sets the clock of a panel back. */
-static void set_back(Member *member, uint32_t time)
+static void set_back(Member *member, uint64_t time)
 {
     must_be_accepted("panel_set_back", panel_set_back(&member->record, time));
-    printf("panel %u is set back to %u: its floor is %u\n", member->record.own,
+    printf("panel %u is set back to %" PRIu64 ": its floor is %" PRIu64 "\n", member->record.own,
            member->record.time, member->record.floor);
 }
 
 /* A panel comes to life. */
-static void start(Member *member, uint8_t number, uint32_t time)
+static void start(Member *member, uint8_t number, uint64_t time)
 {
     must_be_accepted("panel_fresh", panel_fresh(&member->record, number));
     member->logged = 0;
@@ -94,7 +95,7 @@ static void sent(Member *member, PanelAnswer answer, const uint8_t *output, Parc
     keep(member, output, answer.count);
     parcel->length = answer.length;
     parcel->deadline = panel_log_record(output, PANEL_OUTPUT_MIN, 0).deadline;
-    printf("\"%s\" with deadline %u\n", parcel->text, parcel->deadline);
+    printf("\"%s\" with deadline %" PRIu64 "\n", parcel->text, parcel->deadline);
 }
 
 /* A panel sends a note for operators, with the lifetime that 0 stands for. */
@@ -144,13 +145,15 @@ static void receive(Member *member, const Parcel *parcel)
     receive_frame(member, parcel->bytes, parcel->length);
 }
 
-/* The panel of the last entry visited: the visited-th set bit of the mask, in bytes 10 to 17. */
+/* The panel of the last entry visited: the visited-th set bit of the mask. The frame is of version
+   2, as it was sent by one of these panels. */
 static unsigned last_visited(const Parcel *parcel, size_t visited)
 {
+    const uint8_t *mask = parcel->bytes + PANEL_FRAME_MASK_AT;
     unsigned panel = 0;
 
     for (; panel < PANEL_PANELS; panel++) {
-        if ((parcel->bytes[17 - panel / 8] >> panel % 8 & 1) != 0 && --visited == 0)
+        if ((mask[7 - panel / 8] >> panel % 8 & 1) != 0 && --visited == 0)
             break;
     }
     return panel;
@@ -220,7 +223,7 @@ static void print_log(const Member *member)
     printf("\nlog of panel %u\n", member->record.own);
     for (size_t i = 0; i < member->logged; i++) {
         PanelLogRecord record = panel_log_record(member->log, sizeof member->log, i);
-        printf("  %u %u %.*s\n", record.source, record.deadline, record.length,
+        printf("  %u %" PRIu64 " %.*s\n", record.source, record.deadline, record.length,
                (const char *)record.payload);
     }
 }
@@ -248,7 +251,7 @@ static void wrong_order(Member *member, const Parcel chain[CHAIN])
 
 /*
  * A panel gets them in order, and sends a note. The barrier entry of each was removed when the next
- * one was handed, which names it. So the frame has one entry, that of the last: 23 bytes and the
+ * one was handed, which names it. So the frame has one entry, that of the last: 31 bytes and the
  * text, however long the chain is.
  */
 static void short_frame(Member *member, const Parcel chain[CHAIN])
@@ -332,7 +335,7 @@ static Parcel wrong_year(Member *wrong, Member *one, Member *other)
 static void deaf_panel(Member *deaf, Member *from, const Parcel *beacon, const Parcel *note,
                        const Parcel *moisture, const Cab *cab)
 {
-    uint32_t right = deaf->record.time;
+    uint64_t right = deaf->record.time;
 
     receive(deaf, note);
     set_clock(deaf, beacon->deadline + 1);

@@ -1,11 +1,11 @@
 //! The example of examples/farm.c in Rust: the same story, and the same text.
 #![forbid(unsafe_code)]
 
-use panel::{frame_check, log_records, Bundle, Frame, Log, Panel, Refusal, PANELS};
+use panel::{frame_check, log_records, Bundle, Frame, Log, Panel, Refusal, FRAME_MASK_AT, PANELS};
 use std::process::ExitCode;
 
 /// In seconds.
-const YEAR: u32 = 365 * 24 * 60 * 60;
+const YEAR: u64 = 365 * 24 * 60 * 60;
 
 /// A panel, and its log so far.
 struct Member {
@@ -17,12 +17,12 @@ struct Member {
 struct Parcel {
     frame: Frame,
     text: &'static str,
-    deadline: u32,
+    deadline: u64,
 }
 
 impl Member {
     /// A panel comes to life.
-    fn start(own: u8, time: u32) -> Result<Member, Refusal> {
+    fn start(own: u8, time: u64) -> Result<Member, Refusal> {
         let mut member = Member {
             panel: Panel::fresh(own)?,
             log: Vec::new(),
@@ -37,7 +37,7 @@ impl Member {
     }
 
     /// The clock of the panel shows a time.
-    fn set_clock(&mut self, time: u32) -> Result<(), Refusal> {
+    fn set_clock(&mut self, time: u64) -> Result<(), Refusal> {
         let waiting = self.panel.waiting();
         let log = self.panel.clock(time)?;
         self.keep(&log);
@@ -51,7 +51,7 @@ impl Member {
     }
 
     /// A technician sets the clock of the panel back.
-    fn set_back(&mut self, time: u32) -> Result<(), Refusal> {
+    fn set_back(&mut self, time: u64) -> Result<(), Refusal> {
         self.panel.set_back(time)?;
         println!(
             "panel {} is set back to {}: its floor is {}",
@@ -158,9 +158,11 @@ impl Member {
     }
 }
 
-/// The panel of the last entry visited: the visited-th set bit of the mask, in bytes 10 to 17.
+/// The panel of the last entry visited: the visited-th set bit of the mask. The frame is of version
+/// 2, as it was sent by one of these panels.
 fn last_visited(frame: &[u8], visited: usize) -> usize {
-    let set = |panel: &usize| frame[17 - panel / 8] >> (panel % 8) & 1 == 1;
+    let mask = &frame[FRAME_MASK_AT..FRAME_MASK_AT + 8];
+    let set = |panel: &usize| mask[7 - panel / 8] >> (panel % 8) & 1 == 1;
     let entries = (0..PANELS).filter(set);
     entries.take(visited).last().unwrap_or(PANELS)
 }
@@ -176,7 +178,7 @@ fn check_damaged(parcel: &Parcel) {
 
 /// A cab takes a frame along: it puts it into its bundle, behind its length in 16 bits.
 fn take_along(bundle: &mut Vec<u8>, parcel: &Parcel) {
-    // a frame has at most 307 bytes
+    // a frame has at most FRAME_MAX bytes, which 16 bits can say
     bundle.extend_from_slice(&(parcel.frame.len() as u16).to_be_bytes());
     bundle.extend_from_slice(&parcel.frame);
 }
@@ -202,7 +204,7 @@ fn wrong_order(member: &mut Member, [hold, moisture, lifted]: &[Parcel; 3]) {
 }
 
 /// A panel gets them in order, and sends a note. The barrier entry of each was removed when the
-/// next one was handed, which names it. So the frame has one entry, that of the last: 23 bytes and
+/// next one was handed, which names it. So the frame has one entry, that of the last: 31 bytes and
 /// the text, however long the chain is.
 fn short_frame(member: &mut Member, chain: &[Parcel; 3]) -> Result<(), Refusal> {
     for parcel in chain {

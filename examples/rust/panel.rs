@@ -4,13 +4,20 @@
 //! true length; output and frame buffer are made anew for each call, with the room that it asks
 //! for; a `Panel` is lent for the time of a call, and can't be copied, so that nobody goes on with
 //! an older record. One thing is left: the stack. A call takes `STACK_BYTES` at most, and what it
-//! returns 2 KB; a `Panel` has 10 KB, twice that while `Panel::fresh` makes it. Nothing is
+//! returns 2 KB; a `Panel` has 19 KB, twice that while `Panel::fresh` makes it. Nothing is
 //! allocated.
 //!
-//! Panels of version 0.6 and 0.5 can share a farm with these. They have no floor, and their clocks
-//! can't be set back; those of 0.5 also remove no barrier entries when they hand a message, and so
-//! send longer frames. In all else they are the same. Each reads the frames of the others, no
-//! setting is needed, and the causal order of the logs holds in every mixture.
+//! In a frame of version 1 the deadline and each entry have 4 bytes, in one of version 2 they have
+//! 8. `Panel::send` and `Panel::beacon` write version 2; `Panel::receive`, `Panel::trace` and
+//! `frame_check` read both. Both versions of a message are one message: the one that comes second
+//! is refused with `Refusal::HadAlready`. Coming from version 0.7 of this wrapper, times and
+//! deadlines are `u64`, and logs that it kept are not read, as a log record is longer.
+//!
+//! Panels of versions 0.5 to 0.7 can share a farm with these. They send and read version 1 alone,
+//! and refuse the frames of these with `Refusal::FrameVersion`. Those of 0.6 have no floor, and
+//! their clocks can't be set back; those of 0.5 also remove no barrier entries when they hand a
+//! message, and so send longer frames. In all else they are the same. No setting is needed, and the
+//! causal order of the logs holds in every mixture.
 //!
 //! Frames may come in any order, and any number of times. Where panels sent them, no other call
 //! comes between them, and none is refused with `Refusal::ListFull`, a panel ends with the same log
@@ -33,18 +40,24 @@ pub const PAYLOAD_MAX: usize = 32;
 pub const LIFETIME_DEFAULT: u16 = 7200;
 /// Seconds of a beacon's lifetime.
 pub const LIFETIME_BEACON: u16 = 1200;
+/// The last deadline.
+pub const DEADLINE_MAX: u64 = u64::MAX;
 /// Seconds that a received deadline may be ahead of the time: 14 days.
-pub const FARTHEST_AHEAD: u32 = 1_209_600;
-/// Bytes of the longest frame.
-pub const FRAME_MAX: usize = 307;
+pub const FARTHEST_AHEAD: u64 = 1_209_600;
+/// Bytes of the longest frame, of version 2.
+pub const FRAME_MAX: usize = 567;
+/// Where the 8 bytes of the mask stand in a frame of version 2.
+pub const FRAME_MASK_AT: usize = 14;
+/// Where they stand in one of version 1.
+pub const FRAME_1_MASK_AT: usize = 10;
 /// Bytes of a log record.
-pub const LOG_RECORD: usize = 38;
-/// Where the payload stands in a log record.
-const LOG_PAYLOAD_AT: usize = 6;
-/// Bytes of the output: 33 log records.
-const OUTPUT: usize = 1254;
-/// Bytes of the waiting list.
-const SLOTS: usize = 9888;
+pub const LOG_RECORD: usize = LOG_PAYLOAD_AT + PAYLOAD_MAX;
+/// Where the payload stands in a log record: behind source, deadline and length.
+const LOG_PAYLOAD_AT: usize = 1 + 8 + 1;
+/// Bytes of the output: a log record of the message sent or received, and of each that waited.
+const OUTPUT: usize = (WAITING_MAX + 1) * LOG_RECORD;
+/// Bytes of the waiting list: each slot has the length of a frame in 16 bits, and the frame.
+const SLOTS: usize = WAITING_MAX * (2 + FRAME_MAX);
 
 /// The archive as it is.
 mod archive {
@@ -74,7 +87,7 @@ mod archive {
 
     #[repr(C)]
     pub struct LogFields {
-        pub deadline: u32,
+        pub deadline: u64,
         pub source: u8,
         pub length: u8,
     }
@@ -97,7 +110,7 @@ mod archive {
 
     layout!(Answer, 24, count 0, length 8, number 16);
     layout!(Trace, 16, visited 0, ready 8, number 9);
-    layout!(LogFields, 8, deadline 0, source 4, length 5);
+    layout!(LogFields, 16, deadline 0, source 8, length 9);
     layout!(BundleStep, 32, start 0, length 8, next 16, kind 24);
 
     #[link(name = "panel", kind = "static")]
@@ -105,23 +118,23 @@ mod archive {
         pub fn panel_fresh_parts(
             number: u8,
             own: &mut u8,
-            time: &mut u32,
-            high: &mut u32,
+            time: &mut u64,
+            high: &mut u64,
             count: &mut usize,
-            marks: &mut [u32; PANELS],
-            barrier: &mut [u32; PANELS],
+            marks: &mut [u64; PANELS],
+            barrier: &mut [u64; PANELS],
             slots: &mut [u8; SLOTS],
-            floor: &mut u32,
+            floor: &mut u64,
         ) -> u8;
         pub fn panel_send_parts(
             own: u8,
-            time: u32,
-            high: &mut u32,
+            time: u64,
+            high: &mut u64,
             count: &mut usize,
-            marks: &mut [u32; PANELS],
-            barrier: &mut [u32; PANELS],
+            marks: &mut [u64; PANELS],
+            barrier: &mut [u64; PANELS],
             slots: &mut [u8; SLOTS],
-            floor: &mut u32,
+            floor: &mut u64,
             payload: *const u8,
             payload_length: usize,
             lifetime: u16,
@@ -132,13 +145,13 @@ mod archive {
         ) -> Answer;
         pub fn panel_beacon_parts(
             own: u8,
-            time: u32,
-            high: &mut u32,
+            time: u64,
+            high: &mut u64,
             count: &mut usize,
-            marks: &mut [u32; PANELS],
-            barrier: &mut [u32; PANELS],
+            marks: &mut [u64; PANELS],
+            barrier: &mut [u64; PANELS],
             slots: &mut [u8; SLOTS],
-            floor: &mut u32,
+            floor: &mut u64,
             payload: *const u8,
             payload_length: usize,
             output: *mut u8,
@@ -148,13 +161,13 @@ mod archive {
         ) -> Answer;
         pub fn panel_receive_parts(
             own: u8,
-            time: u32,
-            high: &mut u32,
+            time: u64,
+            high: &mut u64,
             count: &mut usize,
-            marks: &mut [u32; PANELS],
-            barrier: &mut [u32; PANELS],
+            marks: &mut [u64; PANELS],
+            barrier: &mut [u64; PANELS],
             slots: &mut [u8; SLOTS],
-            floor: &mut u32,
+            floor: &mut u64,
             frame: *const u8,
             frame_length: usize,
             output: *mut u8,
@@ -162,37 +175,37 @@ mod archive {
         ) -> Answer;
         pub fn panel_clock_parts(
             own: u8,
-            time: &mut u32,
-            high: &mut u32,
+            time: &mut u64,
+            high: &mut u64,
             count: &mut usize,
-            marks: &mut [u32; PANELS],
-            barrier: &mut [u32; PANELS],
+            marks: &mut [u64; PANELS],
+            barrier: &mut [u64; PANELS],
             slots: &mut [u8; SLOTS],
-            floor: &mut u32,
-            reading: u32,
+            floor: &mut u64,
+            reading: u64,
             output: *mut u8,
             output_length: usize,
         ) -> Answer;
         pub fn panel_set_back_parts(
             own: u8,
-            time: &mut u32,
-            high: u32,
+            time: &mut u64,
+            high: u64,
             count: usize,
-            marks: &[u32; PANELS],
-            barrier: &[u32; PANELS],
+            marks: &[u64; PANELS],
+            barrier: &[u64; PANELS],
             slots: &[u8; SLOTS],
-            floor: u32,
-            reading: u32,
+            floor: u64,
+            reading: u64,
         ) -> u8;
         pub fn panel_trace_parts(
             own: u8,
-            time: u32,
-            high: u32,
+            time: u64,
+            high: u64,
             count: usize,
-            marks: &[u32; PANELS],
-            barrier: &[u32; PANELS],
+            marks: &[u64; PANELS],
+            barrier: &[u64; PANELS],
             slots: &[u8; SLOTS],
-            floor: u32,
+            floor: u64,
             frame: *const u8,
             frame_length: usize,
         ) -> Trace;
@@ -261,11 +274,11 @@ impl fmt::Display for Refusal {
     fn fmt(&self, formatter: &mut fmt::Formatter<'_>) -> fmt::Result {
         formatter.write_str(match self {
             Refusal::FrameShort => {
-                "fewer than 19 bytes, or too few for the entries and the length byte, or too few \
-                 for the payload"
+                "fewer than 19 bytes, or in version 2 fewer than 23, or too few for the entries \
+                 and the length byte, or too few for the payload"
             }
             Refusal::FrameMark => "mark: not hexadecimal 44 52 59",
-            Refusal::FrameVersion => "version: not 1",
+            Refusal::FrameVersion => "version: not 1 or 2",
             Refusal::FrameSource => "source: not 0 to 63",
             Refusal::FrameDeadline => "deadline 0",
             Refusal::FrameEntry => "entries: not each 1 or more and below the deadline",
@@ -273,7 +286,7 @@ impl fmt::Display for Refusal {
             Refusal::FrameLeftOver => "bytes left over",
             Refusal::PayloadLong => "payload to send longer than 32",
             Refusal::BufferShort => {
-                "output under 1,254 bytes, or the frame buffer of a send under 307"
+                "output under 1,386 bytes, or the frame buffer of a send under 567"
             }
             Refusal::PanelNumber => "a panel number above 63 asked of a fresh panel",
             Refusal::OwnSource => "the frame's source is the own number",
@@ -284,7 +297,9 @@ impl fmt::Display for Refusal {
                 "its deadline is at most its source's mark, or it is waiting already"
             }
             Refusal::ListFull => "32 are waiting and this one is not ready",
-            Refusal::DeadlineTooHigh => "the deadline of a send would pass 4,294,967,295",
+            Refusal::DeadlineTooHigh => {
+                "the deadline of a send would pass 18,446,744,073,709,551,615"
+            }
             Refusal::ClockBack => "the clock reading is below the panel's time",
             Refusal::RecordBroken => {
                 "the record has an own number above 63, a mark or barrier entry above high, over \
@@ -348,7 +363,7 @@ impl Log {
         }
     }
 
-    /// Their bytes, 38 for each, to be kept. `log_records` reads them.
+    /// Their bytes, `LOG_RECORD` for each, to be kept. `log_records` reads them.
     pub fn bytes(&self) -> &[u8] {
         &self.bytes[..self.count * LOG_RECORD]
     }
@@ -383,7 +398,7 @@ pub struct Trace {
 #[derive(Clone, Copy, Debug, PartialEq, Eq)]
 pub struct LogRecord<'a> {
     pub source: u8,
-    pub deadline: u32,
+    pub deadline: u64,
     pub payload: &'a [u8],
 }
 
@@ -488,13 +503,13 @@ impl core::error::Error for BundleBroken {}
 /// A panel: its record, as the last call left it.
 pub struct Panel {
     own: u8,
-    time: u32,
-    high: u32,
+    time: u64,
+    high: u64,
     count: usize,
-    marks: [u32; PANELS],
-    barrier: [u32; PANELS],
+    marks: [u64; PANELS],
+    barrier: [u64; PANELS],
     slots: [u8; SLOTS],
-    floor: u32,
+    floor: u64,
 }
 
 impl Panel {
@@ -528,11 +543,11 @@ impl Panel {
         Ok(panel)
     }
 
-    /// Sends a payload of at most 32 bytes; a lifetime of 0 means `LIFETIME_DEFAULT`. The frame has
-    /// 19 bytes, 4 for each barrier entry, and the payload; then the barrier is emptied. The first
-    /// of the log records is that of the message sent. Its deadline is above the largest in the
-    /// log: if that puts it further ahead than `FARTHEST_AHEAD`, the other panels refuse it until
-    /// their time is near enough.
+    /// Sends a payload of at most 32 bytes; a lifetime of 0 means `LIFETIME_DEFAULT`. The frame, of
+    /// version 2, has 23 bytes, 8 for each barrier entry, and the payload; then the barrier is
+    /// emptied. The first of the log records is that of the message sent. Its deadline is above the
+    /// largest in the log: if that puts it further ahead than `FARTHEST_AHEAD`, the other panels
+    /// refuse it until their time is near enough.
     pub fn send(&mut self, payload: &[u8], lifetime: u16) -> Result<(Frame, Log), Refusal> {
         let mut frame = Frame::new();
         let mut log = Log::new();
@@ -595,10 +610,11 @@ impl Panel {
         Ok((frame, log))
     }
 
-    /// Receives the bytes of a frame, whole or damaged. A deadline above the time and
-    /// `FARTHEST_AHEAD` is refused with `Refusal::TooFarAhead`. Such a frame may be received again,
-    /// and is taken once the time is near enough. One that was refused with `Refusal::Lapsed` may
-    /// be received again after a set back, if its deadline is above the floor.
+    /// Receives the bytes of a frame of either version, whole or damaged. A deadline above the time
+    /// and `FARTHEST_AHEAD` is refused with `Refusal::TooFarAhead`. Such a frame may be received
+    /// again, and is taken once the time is near enough. One that was refused with
+    /// `Refusal::Lapsed` may be received again after a set back, if its deadline is above the
+    /// floor.
     pub fn receive(&mut self, frame: &[u8]) -> Result<Log, Refusal> {
         let mut log = Log::new();
         // SAFETY: the frame is a slice, the output an array of this function; both are passed with
@@ -626,7 +642,7 @@ impl Panel {
 
     /// Sets the time, drops what has lapsed, and settles. A time that is wrong and above the right
     /// one is lowered by `set_back`.
-    pub fn clock(&mut self, time: u32) -> Result<Log, Refusal> {
+    pub fn clock(&mut self, time: u64) -> Result<Log, Refusal> {
         let mut log = Log::new();
         // SAFETY: the output is an array of this function, passed with its length.
         let answer = unsafe {
@@ -654,7 +670,7 @@ impl Panel {
     /// the time leaves it as it is. Nothing is handed and nothing is dropped. A message with a
     /// deadline of at most the floor is still refused, one above it is taken, also if it was
     /// dropped. Own deadlines stay above the largest in the log.
-    pub fn set_back(&mut self, reading: u32) -> Result<(), Refusal> {
+    pub fn set_back(&mut self, reading: u64) -> Result<(), Refusal> {
         // SAFETY: all that is lent are fields of one record.
         accepted(unsafe {
             archive::panel_set_back_parts(
@@ -674,8 +690,8 @@ impl Panel {
     /// Tells a technician what would become of a frame, whole or damaged, and changes nothing.
     /// Whatever the refusal is, the message is ready or not by marks, time and floor; bytes that
     /// `frame_check` turns down are not ready, with no entry visited. Where a message is not ready,
-    /// the entry at which the test stopped is the `visited`-th set bit of the frame's mask, counted
-    /// from the lowest.
+    /// the entry at which the test stopped is the `visited`-th set bit of the frame's mask (from
+    /// `FRAME_MASK_AT` or `FRAME_1_MASK_AT` on), counted from the lowest.
     pub fn trace(&self, frame: &[u8]) -> Trace {
         // SAFETY: the frame is a slice, passed with its length; nothing that is lent is written.
         let trace = unsafe {
@@ -706,13 +722,13 @@ impl Panel {
 
     /// The last clock reading that was accepted, or the lower reading of a set back since; at first
     /// 0.
-    pub fn time(&self) -> u32 {
+    pub fn time(&self) -> u64 {
         self.time
     }
 
     /// The largest deadline of a message that comes before one of the log in cause and is not in it,
     /// or 0. A deadline has lapsed if it is below the time or at most the floor.
-    pub fn floor(&self) -> u32 {
+    pub fn floor(&self) -> u64 {
         self.floor
     }
 
@@ -722,7 +738,7 @@ impl Panel {
     }
 }
 
-/// Whether the bytes are those of a frame; the refusal is one of 1 to 8.
+/// Whether the bytes are those of a frame, of version 1 or 2; the refusal is one of 1 to 8.
 pub fn frame_check(frame: &[u8]) -> Result<(), Refusal> {
     // SAFETY: the frame is a slice, passed with its length.
     accepted(unsafe { archive::frame_check(frame.as_ptr(), frame.len()) })

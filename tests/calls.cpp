@@ -31,7 +31,7 @@ static size_t send(uint8_t (&frame)[PANEL_FRAME_MAX])
     CHECK(panel_clock(&three, 99, output, sizeof output).number == PANEL_REFUSED_CLOCK_BACK);
     PanelAnswer sent = panel_send(&three, ok, sizeof ok, 0, output, sizeof output, frame,
                                   sizeof frame);
-    CHECK(sent.number == PANEL_ACCEPTED && sent.count == 1 && sent.length == 21);
+    CHECK(sent.number == PANEL_ACCEPTED && sent.count == 1 && sent.length == 25);
     return sent.length;
 }
 
@@ -43,7 +43,7 @@ static void beacon()
 
     CHECK(panel_fresh(&five, 5) == PANEL_ACCEPTED);
     PanelAnswer sent = panel_beacon(&five, frame, 0, output, sizeof output, frame, sizeof frame);
-    CHECK(sent.number == PANEL_ACCEPTED && sent.count == 1 && sent.length == PANEL_FRAME_MIN);
+    CHECK(sent.number == PANEL_ACCEPTED && sent.count == 1 && sent.length == PANEL_FRAME_2_MIN);
     PanelLogRecord record = panel_log_record(output, sent.count * PANEL_LOG_RECORD, 0);
     CHECK(record.source == 5 && record.deadline == PANEL_LIFETIME_BEACON && record.length == 0);
     CHECK(panel_frame_check(frame, sent.length) == PANEL_ACCEPTED);
@@ -67,9 +67,10 @@ static void receive(const uint8_t *frame, size_t length)
 static void trace()
 {
     static Panel six;
-    const uint8_t first[] = {0x44, 0x52, 0x59, 0, 1, 0, 0, 0, 0, 7, 0, 0, 0, 0, 0, 0, 0, 0, 0};
-    const uint8_t later[] = {0x44, 0x52, 0x59, 0, 1, 1, 0, 0, 0, 9, 0, 0, 0, 0,
-                             0,    0,    0,    5, 0, 0, 0, 7, 0, 0, 0, 8, 0};
+    const uint8_t first[] = {0x44, 0x52, 0x59, 0, 2, 0, 0, 0, 0, 0, 0, 0, 0, 7, 0, 0, 0, 0, 0, 0, 0,
+                             0,    0};
+    const uint8_t later[] = {0x44, 0x52, 0x59, 0, 2, 1, 0, 0, 0, 0, 0, 0, 0, 9, 0, 0, 0, 0, 0, 0, 0,
+                             5,    0,    0,    0, 0, 0, 0, 0, 7, 0, 0, 0, 0, 0, 0, 0, 8, 0};
 
     CHECK(panel_fresh(&six, 6) == PANEL_ACCEPTED);
     PanelTrace before = panel_trace(&six, later, sizeof later);
@@ -84,11 +85,32 @@ static void trace()
     CHECK(cut.number == PANEL_REFUSED_FRAME_SHORT && !cut.ready && cut.visited == 0);
 }
 
-// The farthest deadline at time 1, one above what a fresh panel takes, as a note of panel 3.
+// A message of panel 1 in both versions at a fresh panel 10: it waits as version 2, and the version
+// that comes second is refused.
+static void versions()
+{
+    static Panel ten;
+    const uint8_t one[] = {0x44, 0x52, 0x59, 0, 1, 1, 0, 0, 0, 9, 0, 0,
+                           0,    0,    0,    0, 0, 1, 0, 0, 0, 7, 0};
+    const uint8_t two[] = {0x44, 0x52, 0x59, 0, 2, 1, 0, 0, 0, 0, 0, 0, 0, 9, 0, 0,
+                           0,    0,    0,    0, 0, 1, 0, 0, 0, 0, 0, 0, 0, 7, 0};
+
+    CHECK(panel_fresh(&ten, 10) == PANEL_ACCEPTED);
+    CHECK(panel_frame_check(one, sizeof one) == PANEL_ACCEPTED);
+    CHECK(panel_frame_check(two, sizeof two) == PANEL_ACCEPTED);
+    CHECK(panel_receive(&ten, one, sizeof one, output, sizeof output).number == PANEL_ACCEPTED);
+    CHECK(ten.count == 1 && ten.slots[0] == 0 && ten.slots[1] == sizeof two);
+    CHECK(std::memcmp(ten.slots + 2, two, sizeof two) == 0);
+    PanelAnswer again = panel_receive(&ten, two, sizeof two, output, sizeof output);
+    CHECK(again.number == PANEL_REFUSED_HAD_ALREADY && ten.count == 1);
+}
+
+// The farthest deadline at time 1, one above what a fresh panel takes, as a note of panel 3, which
+// is an old one.
 static void far_ahead()
 {
     static Panel eight;
-    const uint32_t deadline = PANEL_FARTHEST_AHEAD + 1;
+    const uint64_t deadline = PANEL_FARTHEST_AHEAD + 1;
     const uint8_t note[] = {0x44, 0x52, 0x59, 0, 1, 3, uint8_t(deadline >> 24),
                             uint8_t(deadline >> 16), uint8_t(deadline >> 8), uint8_t(deadline),
                             0, 0, 0, 0, 0, 0, 0, 0, 0};
@@ -108,10 +130,12 @@ static void far_ahead()
 static void set_back()
 {
     static Panel nine, before;
-    const uint8_t first[] = {0x44, 0x52, 0x59, 0, 1, 0, 0, 0, 0, 7, 0, 0, 0, 0, 0, 0, 0, 0, 0};
-    const uint8_t next[] = {0x44, 0x52, 0x59, 0, 1, 0, 0, 0, 0, 8, 0, 0, 0, 0, 0, 0, 0, 0, 0};
-    const uint8_t later[] = {0x44, 0x52, 0x59, 0, 1, 1, 0, 0, 0, 9, 0, 0,
-                             0,    0,    0,    0, 0, 1, 0, 0, 0, 7, 0};
+    const uint8_t first[] = {0x44, 0x52, 0x59, 0, 2, 0, 0, 0, 0, 0, 0, 0, 0, 7, 0, 0, 0, 0, 0, 0, 0,
+                             0,    0};
+    const uint8_t next[] = {0x44, 0x52, 0x59, 0, 2, 0, 0, 0, 0, 0, 0, 0, 0, 8, 0, 0, 0, 0, 0, 0, 0,
+                            0,    0};
+    const uint8_t later[] = {0x44, 0x52, 0x59, 0, 2, 1, 0, 0, 0, 0, 0, 0, 0, 9, 0, 0,
+                             0,    0,    0,    0, 0, 1, 0, 0, 0, 0, 0, 0, 0, 7, 0};
 
     CHECK(panel_fresh(&nine, 9) == PANEL_ACCEPTED && nine.floor == 0);
     CHECK(panel_receive(&nine, later, sizeof later, output, sizeof output).count == 0);
@@ -147,15 +171,16 @@ static void busy_yard()
             CHECK(panel_receive(panel, notes[i], lengths[i], output, sizeof output).count == 1);
         PanelAnswer sent = panel_send(panel, &nothing, 0, uint16_t(100 * (own + 1)), output,
                                       sizeof output, notes[own], sizeof notes[own]);
-        CHECK(sent.number == PANEL_ACCEPTED && sent.length == (own == 0 ? 19 : 23));
-        CHECK(notes[own][17] == (own == 0 ? 0 : 1 << (own - 1))); // the lowest byte of the mask
+        CHECK(sent.number == PANEL_ACCEPTED && sent.length == (own == 0 ? 23 : 31));
+        const uint8_t lowest = notes[own][PANEL_FRAME_MASK_AT + 7]; // byte of the mask
+        CHECK(lowest == (own == 0 ? 0 : 1 << (own - 1)));
         lengths[own] = sent.length;
     }
 }
 
 int main()
 {
-    uint8_t bytes[2 + PANEL_FRAME_MAX] = {0, 21}, sent[PANEL_FRAME_MAX];
+    uint8_t bytes[2 + PANEL_FRAME_MAX] = {0, 25}, sent[PANEL_FRAME_MAX];
     const uint8_t *frame;
     size_t length = send(sent);
 
@@ -163,10 +188,11 @@ int main()
     CHECK(panel_frame_check(sent, length - 1) == PANEL_REFUSED_FRAME_SHORT);
     std::memcpy(bytes + 2, sent, length);
     PanelBundle bundle = panel_bundle(bytes, 2 + length);
-    CHECK(panel_bundle_next(&bundle, &frame, &length) == PANEL_BUNDLE_FRAME && length == 21);
+    CHECK(panel_bundle_next(&bundle, &frame, &length) == PANEL_BUNDLE_FRAME && length == 25);
     receive(frame, length);
     beacon();
     trace();
+    versions();
     far_ahead();
     set_back();
     busy_yard();

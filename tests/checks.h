@@ -6,26 +6,21 @@
 #include <stddef.h>
 #include <stdint.h>
 
-/* What is tested at the moment, for printing. */
-extern const char *part;
+/* The file of the tests, which lines are of, and what is tested at the moment, for printing. */
+extern const char *file, *part;
 
 /* Counts a check. Of one that fails it prints place and name; the caller prints the difference. */
-bool fails(bool holds, const char *file, int line, const char *what);
+bool fails(bool holds, int line, const char *what);
 
-void same_number_at(const char *file, int line, const char *what, uint64_t given,
-                    uint64_t expected);
+void same_number(int line, const char *what, uint64_t given, uint64_t expected);
 
 /* `start` is the place that counts as byte 0 in what is printed. */
-void same_bytes_at(const char *file, int line, const char *what, const void *given,
-                   const void *expected, size_t length, size_t start);
-
-#define same_number(line, what, given, expected) \
-    same_number_at(__FILE__, line, what, given, expected)
-#define same_bytes(line, what, given, expected, length, start) \
-    same_bytes_at(__FILE__, line, what, given, expected, length, start)
+void same_bytes(int line, const char *what, const void *given, const void *expected, size_t length,
+                size_t start);
 
 /* Puts the bytes that a text in lower-case hexadecimal stands for, and gives how many they are.
-   Blanks in the text are passed over. */
+   Blanks in the text are passed over. Digits behind a + are a number of 8 bytes: +64 is the same as
+   0000000000000064. */
 size_t put_bytes(uint8_t *bytes, const char *text);
 
 /* A copy of some bytes that ends with its block: valgrind sees a read behind it. */
@@ -38,8 +33,10 @@ void paint(uint8_t *bytes, size_t length);
 /* Prints how many checks there were, and gives what main is to return. */
 int checked(void);
 
-/* The tests of calls.c and readers.c. */
+/* The tests of the files of these names. */
 void test_calls(void);
+void test_frames(void);
+void test_versions(void);
 void test_readers(void);
 
 #endif

@@ -1,18 +1,14 @@
 /* The readers of logs and bundles as a C program sees them, the texts and the version. */
-#include "checks.h"
-#include "panel.h"
+#include "steps.h"
 
 #include <stdio.h>
 #include <string.h>
-
-#define EIGHT "6162636465666768"
-#define THIRTY_TWO EIGHT EIGHT EIGHT EIGHT
 
 /* ---- Logs ---- */
 
 /* Reads the record of an index. It is to be none if the payload, in hexadecimal, is null. */
 static void check_log(int line, const uint8_t *log, size_t length, size_t index, uint8_t source,
-                      uint32_t deadline, const char *payload)
+                      uint64_t deadline, const char *payload)
 {
     uint8_t *copy = copy_of(log, length);
     PanelLogRecord record = panel_log_record(copy, length, index);
@@ -88,9 +84,9 @@ static void index_past_the_end(void)
     uint8_t log[2 * PANEL_LOG_RECORD] = {0};
 
     part = "index past the end of a log";
-    put_bytes(log, "3f ffffffff 01 7a");
-    put_bytes(log + PANEL_LOG_RECORD, "00 00000001 00");
-    check_log(__LINE__, log, sizeof log, 0, 63, 4294967295, "7a");
+    put_bytes(log, "3f ffffffffffffffff 01 7a");
+    put_bytes(log + PANEL_LOG_RECORD, "00 +1 00");
+    check_log(__LINE__, log, sizeof log, 0, 63, LAST, "7a");
     check_log(__LINE__, log, sizeof log, 1, 0, 1, "");
     check_no_record(__LINE__, log, sizeof log, 2);
     check_no_record(__LINE__, log, sizeof log, SIZE_MAX / PANEL_LOG_RECORD);
@@ -104,8 +100,8 @@ static void cut_log(void)
     uint8_t log[2 * PANEL_LOG_RECORD] = {0};
 
     part = "cut log";
-    put_bytes(log, "03 00000514 02 4f4b");
-    put_bytes(log + PANEL_LOG_RECORD, "04 00000515 00");
+    put_bytes(log, "03 +514 02 4f4b");
+    put_bytes(log + PANEL_LOG_RECORD, "04 +515 00");
     for (size_t length = 0; length < PANEL_LOG_RECORD; length++)
         check_no_record(__LINE__, log, length, 0);
     for (size_t length = PANEL_LOG_RECORD; length < sizeof log; length++) {
@@ -122,16 +118,18 @@ static void odd_logs(void)
 
     part = "odd logs";
     memset(log, 0xff, sizeof log);
-    put_bytes(log, "03 00000514 20" THIRTY_TWO);
-    put_bytes(log + PANEL_LOG_RECORD, "03 00000514 21" THIRTY_TWO);
-    put_bytes(log + 2 * PANEL_LOG_RECORD, "40 00000514 02 4f4b");
+    put_bytes(log, "03 +514 20" THIRTY_TWO);
+    put_bytes(log + PANEL_LOG_RECORD, "03 +514 21" THIRTY_TWO);
+    put_bytes(log + 2 * PANEL_LOG_RECORD, "40 +514 02 4f4b");
     check_log(__LINE__, log, sizeof log, 0, 3, 1300, THIRTY_TWO);
     check_no_record(__LINE__, log, sizeof log, 1);
     check_log(__LINE__, log, sizeof log, 2, 64, 1300, "4f4b");
-    put_bytes(log + PANEL_LOG_RECORD, "03 00000514 ff");
+    put_bytes(log + PANEL_LOG_RECORD, "03 +514 ff");
     check_no_record(__LINE__, log, sizeof log, 1);
-    put_bytes(log + PANEL_LOG_RECORD, "03 00000000 02 4f4b");
+    put_bytes(log + PANEL_LOG_RECORD, "03 +0 02 4f4b");
     check_no_record(__LINE__, log, sizeof log, 1);
+    put_bytes(log + PANEL_LOG_RECORD, "03 +100000000 02 4f4b"); /* the lower 32 bits are 0 */
+    check_log(__LINE__, log, sizeof log, 1, 3, 4294967296, "4f4b");
 }
 
 /* ---- Bundles ---- */
@@ -235,10 +233,11 @@ static const struct {
     const char *text;
 } texts[] = {
     {PANEL_ACCEPTED, "accepted"},
-    {PANEL_REFUSED_FRAME_SHORT, "fewer than 19 bytes, or too few for the entries and the length "
-                                "byte, or too few for the payload"},
+    {PANEL_REFUSED_FRAME_SHORT,
+     "fewer than 19 bytes, or in version 2 fewer than 23, or too few for the entries and the "
+     "length byte, or too few for the payload"},
     {PANEL_REFUSED_FRAME_MARK, "mark: not hexadecimal 44 52 59"},
-    {PANEL_REFUSED_FRAME_VERSION, "version: not 1"},
+    {PANEL_REFUSED_FRAME_VERSION, "version: not 1 or 2"},
     {PANEL_REFUSED_FRAME_SOURCE, "source: not 0 to 63"},
     {PANEL_REFUSED_FRAME_DEADLINE, "deadline 0"},
     {PANEL_REFUSED_FRAME_ENTRY, "entries: not each 1 or more and below the deadline"},
@@ -246,7 +245,7 @@ static const struct {
     {PANEL_REFUSED_FRAME_LEFT_OVER, "bytes left over"},
     {PANEL_REFUSED_PAYLOAD_LONG, "payload to send longer than 32"},
     {PANEL_REFUSED_BUFFER_SHORT,
-     "output under 1,254 bytes, or the frame buffer of a send under 307"},
+     "output under 1,386 bytes, or the frame buffer of a send under 567"},
     {PANEL_REFUSED_PANEL_NUMBER, "a panel number above 63 asked of a fresh panel"},
     {PANEL_REFUSED_OWN_SOURCE, "the frame's source is the own number"},
     {PANEL_REFUSED_LAPSED,
@@ -254,7 +253,8 @@ static const struct {
     {PANEL_REFUSED_HAD_ALREADY,
      "its deadline is at most its source's mark, or it is waiting already"},
     {PANEL_REFUSED_LIST_FULL, "32 are waiting and this one is not ready"},
-    {PANEL_REFUSED_DEADLINE_TOO_HIGH, "the deadline of a send would pass 4,294,967,295"},
+    {PANEL_REFUSED_DEADLINE_TOO_HIGH,
+     "the deadline of a send would pass 18,446,744,073,709,551,615"},
     {PANEL_REFUSED_CLOCK_BACK, "the clock reading is below the panel's time"},
     {PANEL_REFUSED_RECORD_BROKEN,
      "the record has an own number above 63, a mark or barrier entry above high, over 32 waiting, "
@@ -264,7 +264,7 @@ static const struct {
 
 static void same_text(int line, const char *what, const char *given, const char *expected)
 {
-    if (fails(strcmp(given, expected) == 0, __FILE__, line, what))
+    if (fails(strcmp(given, expected) == 0, line, what))
         printf(" is \"%s\", expected \"%s\"\n", given, expected);
 }
 
@@ -305,6 +305,7 @@ static void version(void)
 
 void test_readers(void)
 {
+    file = __FILE__;
     log_of_a_call();
     index_past_the_end();
     cut_log();

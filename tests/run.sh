@@ -79,8 +79,9 @@ must_warn() {
 
 # The whole archive is linked, so that two objects with one name would be seen.
 test_c() {
-    $1 -O2 -std=c11 $warnings $flags -o $built/tests tests/main.c tests/calls.c tests/readers.c \
-        tests/checks.c -Wl,--whole-archive $libs -Wl,--no-whole-archive
+    $1 -O2 -std=c11 $warnings $flags -o $built/tests tests/main.c tests/calls.c tests/frames.c \
+        tests/versions.c tests/readers.c tests/steps.c tests/checks.c \
+        -Wl,--whole-archive $libs -Wl,--no-whole-archive
     $built/tests
     $1 -O2 -std=c11 $warnings $flags -o $built/stack tests/stack.c tests/checks.c $libs
     $built/stack

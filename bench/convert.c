@@ -1,4 +1,4 @@
-/* Reads the library's record into the reference's; fills slots. */
+/* Reads the library's record into the reference's; fills slots; writes version 1. */
 #include "convert.h"
 
 #include "reference_frames.h"
@@ -14,32 +14,33 @@ _Static_assert(offsetof(Panel, barrier) == offsetof(Record, barrier), "barrier")
 
 /*
  * Damage that the fields can show (source, entries, payload length) is
- * carried over; any other damage is shown by deadline 0.
+ * carried over; any other damage, as version 1, is shown by deadline 0.
  */
 static void message_of_slot(const uint8_t *slot, Message *message)
 {
     size_t length = (size_t)slot[0] << 8 | slot[1];
-    const uint8_t *frame = slot + 2;
+    const uint8_t *frame = slot + 2, *at = frame + entries_at(WIDTH_2);
 
     memset(message, 0, sizeof *message);
     uint8_t number = length > FRAME_MAX ? 8 : c_frame_read(frame, length, message);
-    if (number == 0)
+    bool version_2 = width_of(frame) == WIDTH_2;
+    if (number == 0 && version_2)
         return;
 
     memset(message, 0, sizeof *message);
-    if (number != 4 && number != 6 && number != 7)
+    if (!version_2 || (number != 4 && number != 6 && number != 7))
         return;
-    message->source = frame[5];
-    message->deadline = get32(frame + 6);
+    message->source = frame[SOURCE_AT];
+    message->deadline = get64(frame + DEADLINE_AT);
     if (number == 4) {
         message->deadline |= 1;
         return;
     }
-    message->mask = get64(frame + 10);
+    message->mask = get64(frame + mask_at(WIDTH_2));
     size_t entries = (size_t)__builtin_popcountll(message->mask);
-    for (size_t k = 0; k < entries; k++)
-        message->entries[k] = get32(frame + HEAD + 4 * k);
-    message->length = frame[HEAD + 4 * entries];
+    for (size_t k = 0; k < entries; k++, at += WIDTH_2)
+        message->entries[k] = get64(at);
+    message->length = *at;
 }
 
 void record_of_panel(const Panel *panel, Record *record)
@@ -50,6 +51,11 @@ void record_of_panel(const Panel *panel, Record *record)
            (const uint8_t *)panel + offsetof(Panel, floor), BACK);
     for (size_t i = 0; i < panel->count && i < WAITING_MAX; i++)
         message_of_slot(panel->slots + PANEL_SLOT_BYTES * i, &record->waiting[i]);
+}
+
+size_t frame_1_write(const Message *message, uint8_t *frame)
+{
+    return write_frame(message, frame, WIDTH_1);
 }
 
 size_t slot_write(Panel *panel, size_t place, const Message *message)

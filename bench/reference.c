@@ -21,7 +21,7 @@ uint8_t c_frame_read(const uint8_t *frame, size_t length, Message *message)
 
 size_t c_frame_write(const Message *message, uint8_t *frame)
 {
-    return write_frame(message, frame);
+    return write_frame(message, frame, WIDTH_2);
 }
 
 uint8_t c_fresh(Record *record, uint8_t own)
@@ -35,14 +35,14 @@ uint8_t c_fresh(Record *record, uint8_t own)
 
 /* The message that a send makes, with the barrier entries as they are, and the floor that it gives
    when it is handed. */
-static uint32_t compose(const Record *record, Slice payload, uint32_t deadline, Message *message)
+static uint64_t compose(const Record *record, Slice payload, uint64_t deadline, Message *message)
 {
     uint64_t mask = 0;
     size_t entries = 0;
-    uint32_t floor = record->floor;
+    uint64_t floor = record->floor;
 
     for (int s = 0; s < PANELS; s++) {
-        uint32_t entry = record->barrier[s];
+        uint64_t entry = record->barrier[s];
         if (entry != 0) {
             mask |= (uint64_t)1 << s;
             message->entries[entries++] = entry;
@@ -69,14 +69,13 @@ uint8_t c_send(Record *record, Slice payload, uint16_t lifetime, Buffer output,
     if (payload.length > PAYLOAD_MAX)
         return 9;
 
-    uint64_t deadline = (uint64_t)record->time + (lifetime ? lifetime : DEFAULT_LIFETIME);
-    if (deadline < (uint64_t)record->high + 1)
-        deadline = (uint64_t)record->high + 1;
-    if (deadline > UINT32_MAX)
+    uint64_t seconds = lifetime ? lifetime : DEFAULT_LIFETIME;
+    if (record->time > UINT64_MAX - seconds || record->high == UINT64_MAX)
         return 24;
 
     Message message;
-    uint32_t floor = compose(record, payload, (uint32_t)deadline, &message);
+    uint64_t deadline = larger(record->time + seconds, record->high + 1);
+    uint64_t floor = compose(record, payload, deadline, &message);
     written->length = c_frame_write(&message, buffer.bytes);
     memset(record->barrier, 0, sizeof record->barrier);
     record->floor = floor;
@@ -125,7 +124,7 @@ uint8_t c_receive(Record *record, Slice frame, Buffer output, Written *written)
     return 0;
 }
 
-uint8_t c_clock(Record *record, uint32_t time, Buffer output, Written *written)
+uint8_t c_clock(Record *record, uint64_t time, Buffer output, Written *written)
 {
     *written = (Written){0, 0};
     if (!sound(record))
@@ -149,7 +148,7 @@ uint8_t c_clock(Record *record, uint32_t time, Buffer output, Written *written)
     return 0;
 }
 
-uint8_t c_set_back(Record *record, uint32_t reading)
+uint8_t c_set_back(Record *record, uint64_t reading)
 {
     if (!sound(record))
         return 26;
@@ -194,7 +193,8 @@ LogRecord c_log_record(Slice log, size_t index)
         return none;
 
     const uint8_t *at = log.bytes + LOG_RECORD * index;
-    LogRecord record = {at + 6, get32(at + 1), at[0], at[5]};
+    LogRecord record = {at + LOG_PAYLOAD_AT, get64(at + LOG_DEADLINE_AT), at[0],
+                        at[LOG_LENGTH_AT]};
     return record.deadline != 0 && record.length <= PAYLOAD_MAX ? record : none;
 }
 

@@ -15,30 +15,34 @@ enum {
     PANELS = 64,
     WAITING_MAX = 32,
     PAYLOAD_MAX = 32,
-    FRAME_MIN = 19,
-    FRAME_MAX = 307,
-    LOG_RECORD = 38,
+    FRAME_MIN = 19,   /* of version 1 */
+    FRAME_2_MIN = 23, /* of version 2 */
+    FRAME_MAX = 567,  /* of version 2 */
+    LOG_DEADLINE_AT = 1,
+    LOG_LENGTH_AT = 9,
+    LOG_PAYLOAD_AT = 10,
+    LOG_RECORD = LOG_PAYLOAD_AT + PAYLOAD_MAX,
     OUTPUT_MIN = (WAITING_MAX + 1) * LOG_RECORD
 };
 
 typedef struct {
-    uint32_t deadline;
+    uint64_t deadline;
     uint8_t source;
     uint8_t length;
     uint64_t mask;
-    uint32_t entries[PANELS]; /* packed: one for each bit of the mask, lowest panel first */
+    uint64_t entries[PANELS]; /* packed: one for each bit of the mask, lowest panel first */
     uint8_t payload[PAYLOAD_MAX];
 } Message;
 
 typedef struct {
     uint8_t own;
-    uint32_t time;
-    uint32_t high;
+    uint64_t time;
+    uint64_t high;
     size_t count;
-    uint32_t marks[PANELS];
-    uint32_t barrier[PANELS];
+    uint64_t marks[PANELS];
+    uint64_t barrier[PANELS];
     Message waiting[WAITING_MAX]; /* in the order taken */
-    uint32_t floor;
+    uint64_t floor;
 } Record;
 
 /* Bytes lent to a call: some that it reads, or a buffer that it writes to. */
@@ -64,8 +68,8 @@ uint8_t c_send(Record *record, Slice payload, uint16_t lifetime, Buffer output,
 uint8_t c_beacon(Record *record, Slice payload, Buffer output, Buffer buffer,
                  Written *written);
 uint8_t c_receive(Record *record, Slice frame, Buffer output, Written *written);
-uint8_t c_clock(Record *record, uint32_t time, Buffer output, Written *written);
-uint8_t c_set_back(Record *record, uint32_t reading);
+uint8_t c_clock(Record *record, uint64_t time, Buffer output, Written *written);
+uint8_t c_set_back(Record *record, uint64_t reading);
 
 /* What a trace answers: the number of a receive with an output that is long enough, whether the
    message is ready, and how many entries the test for that visited. */
@@ -80,17 +84,17 @@ Trace c_trace(const Record *record, Slice frame);
 /* The number of the refusal of reading a frame, or 0. */
 uint8_t c_frame_check(const uint8_t *frame, size_t length);
 
-/* Reads a frame into *message, whose content is open if the frame is refused. */
+/* Reads a frame of either version into *message, whose content is open if the frame is refused. */
 uint8_t c_frame_read(const uint8_t *frame, size_t length, Message *message);
 
-/* Writes the frame of a readable message and gives its length. */
+/* Writes the frame of a readable message, of version 2, and gives its length. */
 size_t c_frame_write(const Message *message, uint8_t *frame);
 
 /* ---- Readers of a log and of a bundle ---- */
 
 typedef struct {
     const uint8_t *payload;
-    uint32_t deadline; /* 0: there is no such record */
+    uint64_t deadline; /* 0: there is no such record */
     uint8_t source;
     uint8_t length;
 } LogRecord;

@@ -4,7 +4,7 @@
 
 #include "reference_frames.h"
 
-static inline uint32_t larger(uint32_t a, uint32_t b)
+static inline uint64_t larger(uint64_t a, uint64_t b)
 {
     return a < b ? b : a;
 }
@@ -28,11 +28,10 @@ static inline bool sound(const Record *record)
     if (record->own >= PANELS || record->count > WAITING_MAX)
         return false;
 
-    uint32_t above = 0;
-    for (size_t s = 0; s < PANELS; s++)
-        above |= (record->marks[s] > record->high) | (record->barrier[s] > record->high);
-    if (above)
-        return false;
+    for (size_t s = 0; s < PANELS; s++) {
+        if (record->marks[s] > record->high || record->barrier[s] > record->high)
+            return false;
+    }
 
     for (size_t i = 0; i < record->count; i++) {
         if (!readable(&record->waiting[i]))
@@ -42,7 +41,7 @@ static inline bool sound(const Record *record)
 }
 
 /* Below the time, or at most the floor. */
-static inline bool lapsed(const Record *record, uint32_t deadline)
+static inline bool lapsed(const Record *record, uint64_t deadline)
 {
     return deadline < record->time || deadline <= record->floor;
 }
@@ -53,7 +52,7 @@ static inline bool lapsed(const Record *record, uint32_t deadline)
  */
 static inline bool visit(const Record *record, const Message *message, size_t *visited)
 {
-    const uint32_t *entry = message->entries;
+    const uint64_t *entry = message->entries;
     for (uint64_t rest = message->mask; rest != 0; rest &= rest - 1, entry++) {
         int source = __builtin_ctzll(rest);
         if (visited)
@@ -83,7 +82,7 @@ static inline bool is_waiting(const Record *record, const Message *message)
  * Does the log go without this entry of a message that is handed? An entry that
  * has lapsed by the floor alone does not count, as it can't raise the floor.
  */
-static inline bool goes_without(const Record *record, int source, uint32_t entry)
+static inline bool goes_without(const Record *record, int source, uint64_t entry)
 {
     return record->marks[source] < entry && entry < record->time;
 }
@@ -95,7 +94,7 @@ static inline bool goes_without(const Record *record, int source, uint32_t entry
  */
 static inline void pass_entries(Record *record, const Message *message)
 {
-    const uint32_t *entry = message->entries;
+    const uint64_t *entry = message->entries;
     for (uint64_t rest = message->mask; rest != 0; rest &= rest - 1, entry++) {
         int source = __builtin_ctzll(rest);
         if (record->barrier[source] <= *entry)
@@ -114,10 +113,10 @@ static inline void put_in_log(Record *record, const Message *message, uint8_t *l
     record->high = larger(record->high, message->deadline);
 
     log[0] = source;
-    put32(log + 1, message->deadline);
-    log[5] = message->length;
-    memcpy(log + 6, message->payload, message->length);
-    memset(log + 6 + message->length, 0, (size_t)(PAYLOAD_MAX - message->length));
+    put64(log + LOG_DEADLINE_AT, message->deadline);
+    log[LOG_LENGTH_AT] = message->length;
+    memcpy(log + LOG_PAYLOAD_AT, message->payload, message->length);
+    memset(log + LOG_PAYLOAD_AT + message->length, 0, (size_t)(PAYLOAD_MAX - message->length));
 }
 
 static inline void hand(Record *record, const Message *message, uint8_t *log)

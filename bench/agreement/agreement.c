@@ -16,25 +16,26 @@ static Slice slice_of(const Bytes *bytes)
 }
 
 /* The deadline of a waiting message, or high if there is none. */
-static uint32_t some_deadline(const Panel *panel)
+static uint64_t some_deadline(const Panel *panel)
 {
     if (panel->count == 0 || panel->count > WAITING_MAX)
         return panel->high;
-    return get32(panel->slots + PANEL_SLOT_BYTES * random_below((uint32_t)panel->count) + 8);
+    size_t place = random_below((uint32_t)panel->count);
+    return get64(panel->slots + PANEL_SLOT_BYTES * place + 2 + DEADLINE_AT);
 }
 
 /* A reading about a deadline; mostly, if that is far ahead, about the first at which it is not. */
-static uint32_t reading_about(const Panel *panel, uint32_t deadline)
+static uint64_t reading_about(const Panel *panel, uint64_t deadline)
 {
-    int64_t near = (int64_t)deadline - PANEL_FARTHEST_AHEAD;
+    uint64_t near = plus(deadline, -PANEL_FARTHEST_AHEAD);
     int64_t off = (int64_t)random_below(3) - 1;
 
-    if (near + 1 >= panel->time && chance(800))
-        return plus(0, near + off);
+    if (near != 0 && near + 1 >= panel->time && chance(800))
+        return plus(near, off);
     return plus(deadline, off);
 }
 
-static uint32_t random_reading(const Panel *panel)
+static uint64_t random_reading(const Panel *panel)
 {
     uint32_t way = random_below(1000);
     if (way < 100)
@@ -47,11 +48,11 @@ static uint32_t random_reading(const Panel *panel)
         return reading_about(panel, some_deadline(panel));
     if (way < 990)
         return plus(panel->time, -1 - (chance(500) ? 0 : (int64_t)random_below(2000)));
-    return way < 997 ? (uint32_t)random_64() : UINT32_MAX - random_below(2);
+    return way < 997 ? random_number() : UINT64_MAX - random_below(2);
 }
 
 /* Mostly below the time, in steps as those of a clock, or about the floor or a deadline. */
-static uint32_t random_set_back(const Panel *panel)
+static uint64_t random_set_back(const Panel *panel)
 {
     uint32_t way = random_below(100);
     int64_t off = (int64_t)random_below(3) - 1;
@@ -67,14 +68,14 @@ static uint32_t random_set_back(const Panel *panel)
         return plus(some_deadline(panel), off);
     if (way < 92)
         return plus(panel->time, 1 + random_below(2000));
-    return way < 96 ? 0 : (uint32_t)random_64();
+    return way < 96 ? 0 : random_number();
 }
 
 static uint16_t random_lifetime(const Panel *panel)
 {
     uint32_t way = random_below(100);
-    if (panel->time > UINT32_MAX - 60000 && chance(200)) /* about the last deadline */
-        return (uint16_t)(UINT32_MAX - panel->time + random_below(3));
+    if (panel->time > UINT64_MAX - 60000 && chance(200)) /* about the last deadline */
+        return (uint16_t)(UINT64_MAX - panel->time + random_below(3));
     if (way < 15)
         return 0;
     if (way < 75)
@@ -154,7 +155,7 @@ static Panel panels[IN_PLAY];
 static Record records[IN_PLAY];
 static uint32_t in_play;
 
-/* Some fresh panels, now and then with clocks that are far on. */
+/* Some fresh panels, often with clocks that are far on. */
 static void start_world(void)
 {
     in_play = 2 + random_below(IN_PLAY - 1);
@@ -169,9 +170,10 @@ static void start_world(void)
         forget_frames();
 
     uint32_t way = random_below(100);
-    uint32_t time = way < 70 ? 0
-                  : way < 85 ? UINT32_MAX - random_below(6000)
-                             : (uint32_t)random_64();
+    uint64_t time = way < 60 ? 0
+                  : way < 72 ? UINT32_MAX - random_below(6000) /* deadlines on both sides of it */
+                  : way < 85 ? UINT64_MAX - random_below(6000)
+                             : random_number();
     if (time != 0) {
         for (uint32_t i = 0; i < in_play; i++)
             both_clock(&panels[i], &records[i], plus(time, random_below(50)));

@@ -88,7 +88,7 @@ static void end_call(PanelNumber number, uint8_t c_number)
     saw_number(c_number);
     same_number("the number", number, c_number);
     if (c_number == 21)
-        saw_lapsed(get32(call.bytes + 6) < call.record.time);
+        saw_lapsed(get_due(call.bytes + DEADLINE_AT, width_of(call.bytes)) < call.record.time);
     if (memcmp(bytes_before, call.bytes, call.length) != 0)
         differ("the bytes given were written to");
 }
@@ -175,9 +175,11 @@ void both_receive(Panel *panel, Record *record, Slice frame)
                                        output.proved + MARGIN, output.length);
     uint8_t number = c_receive(record, frame, lent_to_c(&output), &written);
     end_on_record(answer, number, written, panel, record);
+    if (number == 0)
+        saw_taken(width_of(frame.bytes) == WIDTH_1, record->count > call.record.count);
 }
 
-void both_clock(Panel *panel, Record *record, uint32_t time)
+void both_clock(Panel *panel, Record *record, uint64_t time)
 {
     Written written;
     uint8_t none = 0;
@@ -189,7 +191,7 @@ void both_clock(Panel *panel, Record *record, uint32_t time)
     end_on_record(answer, number, written, panel, record);
 }
 
-void both_set_back(Panel *panel, Record *record, uint32_t reading)
+void both_set_back(Panel *panel, Record *record, uint64_t reading)
 {
     uint8_t none = 0;
 

@@ -15,8 +15,8 @@ void both_fresh(uint8_t own, Panel *panel, Record *record);
 void both_send(Panel *panel, Record *record, Slice payload, uint16_t lifetime, Bytes *frame);
 void both_beacon(Panel *panel, Record *record, Slice payload, Bytes *frame);
 void both_receive(Panel *panel, Record *record, Slice frame);
-void both_clock(Panel *panel, Record *record, uint32_t time);
-void both_set_back(Panel *panel, Record *record, uint32_t reading);
+void both_clock(Panel *panel, Record *record, uint64_t time);
+void both_set_back(Panel *panel, Record *record, uint64_t reading);
 void both_trace(const Panel *panel, const Record *record, Slice frame);
 void both_check(Slice frame);
 

@@ -4,6 +4,7 @@
 #include "../convert.h"
 #include "random.h"
 
+#include <inttypes.h>
 #include <stdarg.h>
 #include <stdio.h>
 #include <stdlib.h>
@@ -19,17 +20,17 @@ void differ(const char *format, ...)
 {
     va_list arguments;
     va_start(arguments, format);
-    printf("DIFFERENCE in call %lu (%s), seed %llu: ", call.call, kind_name[call.kind],
-           (unsigned long long)random_seed());
+    printf("DIFFERENCE in call %lu (%s), seed %" PRIu64 ": ", call.call, kind_name[call.kind],
+           random_seed());
     vprintf(format, arguments);
     va_end(arguments);
     printf("\n");
     if (call.kind >= SEND && call.kind <= TRACE)
-        printf("  given a record with own %u, time %u, high %u, %zu waiting, floor %u\n",
-               call.panel.own, call.panel.time, call.panel.high, call.panel.count,
-               call.panel.floor);
-    printf("  %s %llu, output of %zu bytes, %zu bytes given:", call.what,
-           (unsigned long long)call.value, call.output_length, call.length);
+        printf("  given a record with own %u, time %" PRIu64 ", high %" PRIu64 ", %zu waiting, "
+               "floor %" PRIu64 "\n", call.panel.own, call.panel.time, call.panel.high,
+               call.panel.count, call.panel.floor);
+    printf("  %s %" PRIu64 ", output of %zu bytes, %zu bytes given:", call.what, call.value,
+           call.output_length, call.length);
     for (size_t i = 0; i < call.length; i++)
         printf("%s%02x", i % 4 == 0 ? " " : "", call.bytes[i]);
     printf("\n");
@@ -39,8 +40,7 @@ void differ(const char *format, ...)
 void same_number(const char *what, uint64_t proved, uint64_t c)
 {
     if (proved != c)
-        differ("%s is %llu, in C %llu", what, (unsigned long long)proved,
-               (unsigned long long)c);
+        differ("%s is %" PRIu64 ", in C %" PRIu64, what, proved, c);
 }
 
 void same_bytes(const char *what, const uint8_t *proved, const uint8_t *c, size_t length,
@@ -77,20 +77,20 @@ static const char *part_at(size_t byte)
         size_t at, size;
     } parts[] = {
         {"own number", offsetof(Panel, own), sizeof(uint8_t)},
-        {"time", offsetof(Panel, time), sizeof(uint32_t)},
-        {"high", offsetof(Panel, high), sizeof(uint32_t)},
+        {"time", offsetof(Panel, time), sizeof(uint64_t)},
+        {"high", offsetof(Panel, high), sizeof(uint64_t)},
         {"number of waiting messages", offsetof(Panel, count), sizeof(size_t)},
-        {"marks", offsetof(Panel, marks), PANELS * sizeof(uint32_t)},
-        {"barrier", offsetof(Panel, barrier), PANELS * sizeof(uint32_t)},
+        {"marks", offsetof(Panel, marks), PANELS * sizeof(uint64_t)},
+        {"barrier", offsetof(Panel, barrier), PANELS * sizeof(uint64_t)},
         {"slots", offsetof(Panel, slots), PANEL_SLOTS_BYTES},
-        {"floor", offsetof(Panel, floor), sizeof(uint32_t)}
+        {"floor", offsetof(Panel, floor), sizeof(uint64_t)}
     };
 
     for (size_t i = 0; i < sizeof parts / sizeof parts[0]; i++) {
         if (byte >= parts[i].at && byte < parts[i].at + parts[i].size)
             return parts[i].name;
     }
-    return "between or behind the fields";
+    return "between the fields";
 }
 
 /* Compares a part of so many bytes of the records. */

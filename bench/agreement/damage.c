@@ -1,35 +1,42 @@
 /* Damage to frames. */
 #include "frames.h"
 
+#include "../reference_frames.h"
 #include "random.h"
 
 #include <string.h>
 
 /* Entries that the frame has, as far as its mask and length go. */
-static size_t entries_of(const Bytes *frame)
+static size_t entries_of(const Bytes *frame, size_t width)
 {
-    size_t most = (frame->length - FRAME_MIN) / 4; /* if no payload */
-    uint64_t mask = 0;
-    for (int i = 0; i < 8; i++)
-        mask = mask << 8 | frame->bytes[10 + i];
-    size_t stated = (size_t)__builtin_popcountll(mask);
+    size_t most = (frame->length - entries_at(width) - 1) / width; /* if no payload */
+    size_t stated = (size_t)__builtin_popcountll(get64(frame->bytes + mask_at(width)));
     return stated < most ? stated : most;
 }
 
 /* 0, the deadline, or a number that differs from it in a bit. */
-static void damage_entry(uint8_t *entry, const uint8_t *deadline)
+static void damage_entry(uint8_t *entry, const uint8_t *deadline, size_t width)
 {
     if (chance(300))
-        memset(entry, 0, 4);
+        memset(entry, 0, width);
     else
-        memcpy(entry, deadline, 4);
+        memcpy(entry, deadline, width);
     if (chance(300))
-        entry[random_below(4)] ^= (uint8_t)(1u << random_below(8));
+        entry[random_below((uint32_t)width)] ^= (uint8_t)(1u << random_below(8));
+}
+
+/* Another version, often the other one that is read. */
+static void damage_version(uint8_t *version)
+{
+    if (chance(400))
+        version[1] ^= 1 ^ 2;
+    else
+        version[random_below(2)] ^= (uint8_t)(1 + random_below(255));
 }
 
 static void damage_length(Bytes *frame)
 {
-    switch (random_below(3)) {
+    switch (random_below(4)) {
     case 0:
         frame->length = random_below((uint32_t)frame->length);
         break;
@@ -37,6 +44,12 @@ static void damage_length(Bytes *frame)
         size_t more = 1 + (chance(500) ? 0 : random_below(100));
         random_bytes(frame->bytes + frame->length, more);
         frame->length += more;
+        break;
+    }
+    case 2: { /* about the shortest frames of both versions */
+        size_t few = FRAME_MIN - 1 + random_below(FRAME_2_MIN - FRAME_MIN + 2);
+        if (frame->length > few)
+            frame->length = few;
         break;
     }
     default:
@@ -48,24 +61,25 @@ static void damage_length(Bytes *frame)
 void damage(Bytes *frame)
 {
     uint8_t *bytes = frame->bytes;
-    if (frame->length < FRAME_MIN || frame->length > FRAME_MAX)
+    size_t width = width_of(bytes);
+    if (width == 0 || frame->length <= entries_at(width) || frame->length > FRAME_MAX)
         return;
-    size_t entries = entries_of(frame);
-    uint8_t *length = bytes + 18 + 4 * entries;
+    size_t entries = entries_of(frame, width);
+    uint8_t *entry = bytes + entries_at(width), *length = entry + width * entries;
     uint32_t way = random_below(12);
 
     if (way == 0)
-        bytes[random_below(3)] ^= (uint8_t)(1 + random_below(255));
+        bytes[random_below(VERSION_AT)] ^= (uint8_t)(1 + random_below(255));
     else if (way == 1)
-        bytes[3 + random_below(2)] ^= (uint8_t)(1 + random_below(255));
+        damage_version(bytes + VERSION_AT);
     else if (way == 2)
-        bytes[5] = (uint8_t)(64 + random_below(192));
+        bytes[SOURCE_AT] = (uint8_t)(64 + random_below(192));
     else if (way == 3)
-        memset(bytes + 6, 0, 4);
+        memset(bytes + DEADLINE_AT, 0, width);
     else if (way == 4)
-        bytes[10 + random_below(8)] ^= (uint8_t)(1u << random_below(8));
+        bytes[mask_at(width) + random_below(8)] ^= (uint8_t)(1u << random_below(8));
     else if (way == 5 && entries > 0)
-        damage_entry(bytes + 18 + 4 * random_below((uint32_t)entries), bytes + 6);
+        damage_entry(entry + width * random_below((uint32_t)entries), bytes + DEADLINE_AT, width);
     else if (way == 6)
         *length = (uint8_t)(33 + random_below(223));
     else if (way == 7)

@@ -1,7 +1,8 @@
-/* Random frames: sent ones again, forged ones, damaged ones, noise. */
+/* Random frames of both versions: sent ones again, forged ones, damaged ones, noise. */
 #include "frames.h"
 
 #include "../convert.h"
+#include "../reference_frames.h"
 #include "random.h"
 
 #include <string.h>
@@ -47,7 +48,7 @@ uint64_t random_mask(void)
 }
 
 void random_message(Message *message, const Panel *panel, uint8_t source,
-                    uint32_t deadline, uint64_t mask)
+                    uint64_t deadline, uint64_t mask)
 {
     memset(message, 0, sizeof *message);
     message->source = source;
@@ -56,8 +57,8 @@ void random_message(Message *message, const Panel *panel, uint8_t source,
     bool low = chance(400); /* all entries met */
     size_t entries = 0;
     for (uint64_t rest = message->mask; rest != 0; rest &= rest - 1) {
-        uint32_t mark = panel->marks[__builtin_ctzll(rest)];
-        uint32_t entry;
+        uint64_t mark = panel->marks[__builtin_ctzll(rest)];
+        uint64_t entry;
         if (panel->floor != 0 && chance(200))
             entry = plus(panel->floor, low ? 0 : (int64_t)random_below(3) - 1);
         else if (low)
@@ -79,7 +80,7 @@ void random_message(Message *message, const Panel *panel, uint8_t source,
 /* What a forged frame says. */
 typedef struct {
     uint8_t source;
-    uint32_t deadline;
+    uint64_t deadline;
     uint64_t mask;
 } Forged;
 
@@ -128,17 +129,32 @@ static void forge(Bytes *frame, const Panel *panel)
     frame->length = c_frame_write(&message, frame->bytes);
 }
 
+void make_version_1(Bytes *frame)
+{
+    Message message;
+
+    if (c_frame_read(frame->bytes, frame->length, &message) == 0 && message.deadline <= UINT32_MAX)
+        frame->length = frame_1_write(&message, frame->bytes);
+}
+
+/* Random bytes, with more or less of a right start of either version. */
+static void noise(Bytes *frame)
+{
+    const uint8_t start[8] = {0x44, 0x52, 0x59, 0, (uint8_t)(1 + random_below(2)), 7, 0, 0};
+
+    frame->length = chance(500) ? random_below(40) : random_below(BYTES_MAX);
+    memcpy(frame->bytes, start, random_below(9));
+    if (chance(300))
+        memset(frame->bytes + mask_at(chance(500) ? WIDTH_1 : WIDTH_2), 0, 8);
+}
+
 void random_frame(Bytes *frame, const Panel *panel)
 {
     uint32_t way = random_below(100);
 
     random_bytes(frame->bytes, BYTES_MAX); /* behind the frame too */
-    if (way < 4) { /* random bytes, with more or less of a right start */
-        static const uint8_t start[8] = {0x44, 0x52, 0x59, 0, 1, 7, 0, 0};
-        frame->length = chance(500) ? random_below(40) : random_below(BYTES_MAX);
-        memcpy(frame->bytes, start, random_below(9));
-        if (chance(300))
-            memset(frame->bytes + 10, 0, 8);
+    if (way < 4) {
+        noise(frame);
         return;
     }
     if (way < 40 || sent_frames == 0) {
@@ -148,6 +164,8 @@ void random_frame(Bytes *frame, const Panel *panel)
         frame->length = old->length;
         memcpy(frame->bytes, old->bytes, old->length);
     }
+    if (chance(350))
+        make_version_1(frame);
     if (chance(150)) {
         damage(frame);
         if (chance(250))

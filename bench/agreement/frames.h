@@ -6,7 +6,7 @@
 
 #include <panel.h>
 
-enum { BYTES_MAX = 512 };
+enum { BYTES_MAX = FRAME_MAX + 128 }; /* a frame, and what damage may add */
 
 typedef struct {
     size_t length;
@@ -21,9 +21,12 @@ uint64_t random_mask(void);
 
 /* A readable message; its entries lie about the marks, about the time and about the floor. */
 void random_message(Message *message, const Panel *panel, uint8_t source,
-                    uint32_t deadline, uint64_t mask);
+                    uint64_t deadline, uint64_t mask);
 
-/* Spoils a frame in one way, mostly by a single field. */
+/* Makes a frame that is readable, and whose deadline fits 32 bits, one of version 1. */
+void make_version_1(Bytes *frame);
+
+/* Spoils a frame of either version in one way, mostly by a single field. */
 void damage(Bytes *frame);
 
 void random_frame(Bytes *frame, const Panel *panel);

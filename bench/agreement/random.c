@@ -1,4 +1,4 @@
-/* Random numbers (splitmix64), random bytes, and a sum held in 32 bits. */
+/* Random numbers (splitmix64), random bytes, and a sum held in 64 bits. */
 #include "random.h"
 
 #include <string.h>
@@ -34,6 +34,11 @@ bool chance(uint32_t in_1000)
     return random_below(1000) < in_1000;
 }
 
+uint64_t random_number(void)
+{
+    return random_64() >> random_below(64);
+}
+
 void random_bytes(uint8_t *bytes, size_t count)
 {
     while (count >= 8) {
@@ -46,8 +51,10 @@ void random_bytes(uint8_t *bytes, size_t count)
         *bytes++ = (uint8_t)random_64();
 }
 
-uint32_t plus(uint32_t a, int64_t b)
+uint64_t plus(uint64_t a, int64_t b)
 {
-    int64_t sum = (int64_t)a + b;
-    return sum < 0 ? 0 : sum > (int64_t)UINT32_MAX ? UINT32_MAX : (uint32_t)sum;
+    uint64_t sum = a + (uint64_t)b;
+    if (b < 0)
+        return sum > a ? 0 : sum;
+    return sum < a ? UINT64_MAX : sum;
 }

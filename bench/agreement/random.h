@@ -13,6 +13,9 @@ uint64_t random_seed(void);
 
 uint64_t random_64(void);
 
+/* Of any number of bits. */
+uint64_t random_number(void);
+
 /* Below count. */
 uint32_t random_below(uint32_t count);
 
@@ -20,7 +23,7 @@ bool chance(uint32_t in_1000);
 
 void random_bytes(uint8_t *bytes, size_t count);
 
-/* The sum, held within 32 bits. */
-uint32_t plus(uint32_t a, int64_t b);
+/* The sum, held within 64 bits. */
+uint64_t plus(uint64_t a, int64_t b);
 
 #endif

@@ -69,10 +69,13 @@ static void random_log(void)
 
     random_bytes(log, sizeof log);
     for (size_t at = 0; at < sizeof log; at += LOG_RECORD) {
-        if (chance(150))
-            memset(log + at + 1, 0, 4);
+        if (chance(300)) {
+            memset(log + at + LOG_DEADLINE_AT, 0, 8);
+            if (chance(500)) /* one byte alone is not 0 */
+                log[at + LOG_DEADLINE_AT + random_below(8)] = 1;
+        }
         if (chance(850))
-            log[at + 5] = (uint8_t)random_below(34);
+            log[at + LOG_LENGTH_AT] = (uint8_t)random_below(34);
     }
     both_log((Slice){log, length}, random_below(6));
     both_log((Slice){log, length}, random_64() >> random_below(64));

@@ -22,9 +22,11 @@ void random_panel(Panel *panel)
 {
     any_bytes(panel);
     panel->own = (uint8_t)random_below(PANELS);
-    panel->time = chance(900) ? random_below(60) : UINT32_MAX - random_below(80);
+    panel->time = chance(850) ? random_below(60)
+                : chance(500) ? UINT32_MAX - random_below(80)
+                              : UINT64_MAX - random_below(80);
     /* deadlines lie about the time, or about the farthest that is taken */
-    uint32_t about = plus(panel->time, chance(850) ? 0 : PANEL_FARTHEST_AHEAD);
+    uint64_t about = plus(panel->time, chance(850) ? 0 : PANEL_FARTHEST_AHEAD);
     for (int s = 0; s < PANELS; s++) {
         if (chance(400))
             panel->marks[s] = plus(about, (int64_t)random_below(100) - 50);
@@ -38,11 +40,11 @@ void random_panel(Panel *panel)
     }
     if (chance(400))
         panel->floor = chance(950) ? plus(about, (int64_t)random_below(100) - 60)
-                                   : UINT32_MAX - random_below(2);
+                                   : UINT64_MAX - random_below(2);
     panel->count = chance(300) ? 32 : random_below(33);
     for (size_t i = 0; i < panel->count; i++) {
         Message message;
-        uint32_t deadline = plus(about, (int64_t)random_below(100) - 20);
+        uint64_t deadline = plus(about, (int64_t)random_below(100) - 20);
         uint64_t mask = random_mask();
         uint8_t source = (uint8_t)random_below(chance(500) ? 64 : 4);
         random_message(&message, panel, source, deadline, mask);
@@ -58,7 +60,7 @@ void random_panel(Panel *panel)
 void random_chain(Panel *panel)
 {
     uint8_t place[WAITING_MAX];
-    uint32_t last_deadline = 0;
+    uint64_t last_deadline = 0;
     uint8_t last_source = 0;
 
     any_bytes(panel);
@@ -72,7 +74,7 @@ void random_chain(Panel *panel)
         place[j] = (uint8_t)i;
     }
     uint32_t step = random_below(2); /* 0: all deadlines close together */
-    uint32_t deadline = 200;
+    uint64_t deadline = 200;
     for (size_t i = 0; i < panel->count; i++) {
         Message message;
         deadline += step + random_below(3) / 2;
@@ -89,7 +91,7 @@ void random_chain(Panel *panel)
     }
 }
 
-/* Another length in front of the frame, or the frame itself spoilt. */
+/* Another length in front of the frame, or the frame itself spoilt, or its version 1. */
 static void damage_slot(uint8_t *slot)
 {
     Bytes frame;
@@ -99,11 +101,14 @@ static void damage_slot(uint8_t *slot)
         if (chance(500))
             n += chance(500) ? 1 : UINT32_MAX;
         else
-            n = chance(500) ? 306 + random_below(5) : (uint32_t)random_64();
+            n = chance(500) ? FRAME_MAX - 1 + random_below(5) : (uint32_t)random_64();
     } else {
         frame.length = n > FRAME_MAX ? FRAME_MAX : n;
         memcpy(frame.bytes, slot + 2, frame.length);
-        damage(&frame);
+        if (chance(150))
+            make_version_1(&frame);
+        else
+            damage(&frame);
         n = frame.length > FRAME_MAX ? FRAME_MAX : (uint32_t)frame.length;
         memcpy(slot + 2, frame.bytes, n);
     }
@@ -136,7 +141,7 @@ void damage_panel(Panel *panel)
     } else if (way == 7) { /* more or fewer of the slots */
         panel->count = random_below(33);
     } else if (way == 8) { /* any floor is allowed */
-        panel->floor = chance(300) ? UINT32_MAX : (uint32_t)random_64();
+        panel->floor = chance(300) ? UINT64_MAX : random_number();
     } else {
         uint32_t place = random_below(some ? (uint32_t)panel->count : WAITING_MAX);
         damage_slot(panel->slots + PANEL_SLOT_BYTES * place);

@@ -8,6 +8,7 @@
 static unsigned long seen[KINDS][256];
 static unsigned long handed_seen[WAITING_MAX + 2];
 static unsigned long waiting_seen[WAITING_MAX + 1];
+static unsigned long taken_seen[2][2]; /* of version 2 and 1: handed at once, and waits */
 static unsigned long removed_seen[PANELS]; /* the source of the last one handed has an entry */
 static unsigned long floor_seen[2];  /* left, and raised */
 static unsigned long lapsed_seen[2]; /* by the floor alone, and by the time */
@@ -25,7 +26,12 @@ void saw_accepted(size_t handed, size_t waiting)
     waiting_seen[waiting]++;
 }
 
-void saw_barrier(const uint32_t *before, const uint32_t *after)
+void saw_taken(bool version_1, bool waits)
+{
+    taken_seen[version_1][waits]++;
+}
+
+void saw_barrier(const uint64_t *before, const uint64_t *after)
 {
     size_t removed = 0;
     for (int s = 0; s < PANELS; s++)
@@ -33,7 +39,7 @@ void saw_barrier(const uint32_t *before, const uint32_t *after)
     removed_seen[removed]++;
 }
 
-void saw_floor(uint32_t before, uint32_t after)
+void saw_floor(uint64_t before, uint64_t after)
 {
     floor_seen[after > before]++;
 }
@@ -43,7 +49,7 @@ void saw_lapsed(bool by_time)
     lapsed_seen[by_time]++;
 }
 
-void saw_set_back(uint32_t before, uint32_t after)
+void saw_set_back(uint64_t before, uint64_t after)
 {
     time_seen[after < before]++;
 }
@@ -96,6 +102,9 @@ void print_seen(void)
            sum(handed_seen, 8, 31), handed_seen[32], handed_seen[33]);
     printf("waiting after accepted calls: none %lu, 1 to 31 %lu, 32 %lu\n", waiting_seen[0],
            sum(waiting_seen, 1, WAITING_MAX - 1), waiting_seen[WAITING_MAX]);
+    printf("frames taken, of version 1: %lu handed at once, %lu wait; of version 2: %lu, %lu\n",
+           taken_seen[true][false], taken_seen[true][true], taken_seen[false][false],
+           taken_seen[false][true]);
     printf("barrier entries removed by receives and clock calls: none %lu, 1 %lu, 2 to 7 %lu, "
            "8 to 63 %lu\n", removed_seen[0], removed_seen[1], sum(removed_seen, 2, 7),
            sum(removed_seen, 8, PANELS - 1));

@@ -1,4 +1,4 @@
-/* Bundles for the program "list". */
+/* Bundles for the program "list", of frames of version 2 where no other is named. */
 #ifndef BUNDLES_H
 #define BUNDLES_H
 
@@ -14,6 +14,9 @@ size_t no_frames(void);
 
 /* Frames that are each handed at once; the last bytes are left over. */
 size_t each_handed(void);
+
+/* The same of version 1. */
+size_t each_of_version_1(void);
 
 /* A short frame of each panel, then long ones: all are handed at once. */
 size_t long_handed(void);

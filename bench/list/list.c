@@ -14,17 +14,15 @@ static void print_log(const uint8_t *output, size_t count)
     static const char digits[] = "0123456789abcdef";
 
     for (size_t i = 0; i < count; i++) {
-        const uint8_t *r = output + LOG_RECORD * i;
-        uint32_t deadline = (uint32_t)r[1] << 24 | (uint32_t)r[2] << 16 |
-                            (uint32_t)r[3] << 8 | r[4];
+        LogRecord r = c_log_record((Slice){output, LOG_RECORD * count}, i);
         char payload[2 * PAYLOAD_MAX + 1];
         size_t n = 0;
-        for (size_t k = 0; k < r[5]; k++) {
-            payload[n++] = digits[r[6 + k] >> 4];
-            payload[n++] = digits[r[6 + k] & 15];
+        for (size_t k = 0; k < r.length; k++) {
+            payload[n++] = digits[r.payload[k] >> 4];
+            payload[n++] = digits[r.payload[k] & 15];
         }
         payload[n] = 0;
-        printf("hand %u %" PRIu32 " %s\n", r[0], deadline, n > 0 ? payload : "-");
+        printf("hand %u %" PRIu64 " %s\n", r.source, r.deadline, n > 0 ? payload : "-");
     }
 }
 

@@ -88,7 +88,8 @@ typedef struct {
 static Row rows[] = {
     {"empty: the start of a process", no_frames, "bundle_empty", 0, {0, 0}},
     {"short frames, each handed", each_handed, "bundle_short", 0, {0, 0}},
-    {"frames of 303 bytes, each handed", long_handed, "bundle_long", 0, {0, 0}},
+    {"short frames of version 1, each handed", each_of_version_1, "bundle_old", 0, {0, 0}},
+    {"frames of 63 entries, each handed", long_handed, "bundle_long", 0, {0, 0}},
     {"32 short frames wait, in turns", in_turns, "bundle_turns", 0, {0, 0}},
     {"32 short frames wait, others refused", all_wait, "bundle_wait", 0, {0, 0}},
     {"the same short frame again", one_again, "bundle_again", 0, {0, 0}}

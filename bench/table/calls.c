@@ -1,6 +1,8 @@
 /* The calls that are measured, with their arguments. */
 #include "case.h"
 
+#include "../convert.h"
+
 #include <string.h>
 
 static void to_take(Kind kind, const Message *message)
@@ -29,13 +31,21 @@ void to_receive_and_read(const Message *message)
     to_take(RECEIVE_AND_READ, message);
 }
 
+void as_version_1(void)
+{
+    Message message;
+
+    c_frame_read(now.bytes, now.length, &message);
+    now.length = frame_1_write(&message, now.bytes);
+}
+
 static void take_bundle(Kind kind, Form form)
 {
     now.kind = kind;
     now.length = 0;
     for (size_t i = 0; i < BUNDLE_FRAMES; i++) {
         uint8_t *at = now.bytes + now.length;
-        Message message = form((uint8_t)(50 + i), (uint32_t)(2000 + i));
+        Message message = form((uint8_t)(50 + i), 2000 + i);
         size_t length = c_frame_write(&message, at + 2);
         at[0] = (uint8_t)(length >> 8);
         at[1] = (uint8_t)length;
@@ -83,13 +93,13 @@ void to_beacon(uint8_t length)
     now.kind = BEACON;
 }
 
-void to_clock(uint32_t time)
+void to_clock(uint64_t time)
 {
     now.kind = CLOCK;
     now.time = time;
 }
 
-void to_set_back(uint32_t time)
+void to_set_back(uint64_t time)
 {
     now.kind = SET_BACK;
     now.time = time;

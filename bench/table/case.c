@@ -9,7 +9,7 @@ Case now;
 
 /* ---- Messages ---- */
 
-Message plain(uint8_t source, uint32_t deadline, uint8_t length)
+Message plain(uint8_t source, uint64_t deadline, uint8_t length)
 {
     Message message;
     memset(&message, 0, sizeof message);
@@ -21,36 +21,36 @@ Message plain(uint8_t source, uint32_t deadline, uint8_t length)
     return message;
 }
 
-void entry(Message *message, uint8_t source, uint32_t deadline)
+void entry(Message *message, uint8_t source, uint64_t deadline)
 {
     message->entries[__builtin_popcountll(message->mask)] = deadline;
     message->mask |= (uint64_t)1 << source;
 }
 
 /* With the entry of each panel from first to last. */
-static Message with_entries(Message message, uint8_t first, uint8_t last, uint32_t deadline)
+static Message with_entries(Message message, uint8_t first, uint8_t last, uint64_t deadline)
 {
     for (uint8_t source = first; source <= last; source++)
         entry(&message, source, deadline);
     return message;
 }
 
-Message usual(uint8_t source, uint32_t deadline)
+Message usual(uint8_t source, uint64_t deadline)
 {
     return with_entries(plain(source, deadline, 32), 40, 42, 590);
 }
 
-Message early(uint8_t source, uint32_t deadline)
+Message early(uint8_t source, uint64_t deadline)
 {
     return with_entries(usual(source, deadline), 61, 61, 700);
 }
 
-Message middle(uint8_t source, uint32_t deadline)
+Message middle(uint8_t source, uint64_t deadline)
 {
     return with_entries(plain(source, deadline, 16), 47, 62, 500);
 }
 
-Message longest(uint8_t source, uint32_t deadline)
+Message longest(uint8_t source, uint64_t deadline)
 {
     return with_entries(plain(source, deadline, 32), 0, 63, 500);
 }
@@ -77,12 +77,12 @@ static void add(const Message *message)
 
 static Message linked(size_t place)
 {
-    Message message = plain((uint8_t)place, (uint32_t)(1000 + place), (uint8_t)(place % 33));
+    Message message = plain((uint8_t)place, 1000 + place, (uint8_t)(place % 33));
 
     if (place == 0)
         entry(&message, 62, 500);
     else
-        entry(&message, (uint8_t)(place - 1), (uint32_t)(1000 + place - 1));
+        entry(&message, (uint8_t)(place - 1), 1000 + place - 1);
     return message;
 }
 
@@ -112,7 +112,7 @@ void one_of(size_t count)
     entry(&first, 62, 500);
     add(&first);
     for (size_t i = 1; i < count; i++) {
-        Message message = early((uint8_t)i, (uint32_t)(1000 + i));
+        Message message = early((uint8_t)i, 1000 + i);
         add(&message);
     }
 }
@@ -124,7 +124,7 @@ static void alike(size_t count, Form form)
     for (int source = 0; source < PANELS; source++)
         now.panel.marks[source] = source == 62 ? 0 : 600;
     for (size_t i = 0; i < count; i++) {
-        Message message = form((uint8_t)i, (uint32_t)(1000 + i));
+        Message message = form((uint8_t)i, 1000 + i);
         add(&message);
     }
 }

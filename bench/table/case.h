@@ -37,7 +37,7 @@ typedef struct {
     uint8_t bytes[BYTES_MAX]; /* a frame, a payload, a bundle, or a log */
     size_t length;            /* of the bytes */
     uint16_t lifetime;
-    uint32_t time;
+    uint64_t time;
     size_t output_length;
     size_t frame_length; /* of the buffer for the frame */
 } Case;
@@ -48,22 +48,22 @@ extern Case now;
 /* ---- Messages ---- */
 
 /* A message with a payload that its source shows in. */
-Message plain(uint8_t source, uint32_t deadline, uint8_t length);
+Message plain(uint8_t source, uint64_t deadline, uint8_t length);
 
 /* Adds an entry of a higher panel than those before. */
-void entry(Message *message, uint8_t source, uint32_t deadline);
+void entry(Message *message, uint8_t source, uint64_t deadline);
 
 /* A usual frame: three entries that are met, 32 bytes of payload. */
-Message usual(uint8_t source, uint32_t deadline);
+Message usual(uint8_t source, uint64_t deadline);
 
 /* The same with one entry that is not met. */
-Message early(uint8_t source, uint32_t deadline);
+Message early(uint8_t source, uint64_t deadline);
 
-/* A frame of 99 bytes: entries of 500 of the panels 47 to 62, 16 bytes of payload. */
-Message middle(uint8_t source, uint32_t deadline);
+/* A frame of 16 entries: 500 of the panels 47 to 62, and 16 bytes of payload. */
+Message middle(uint8_t source, uint64_t deadline);
 
 /* The longest frame: 64 entries of 500, 32 bytes of payload. */
-Message longest(uint8_t source, uint32_t deadline);
+Message longest(uint8_t source, uint64_t deadline);
 
 /* ---- Records: each starts the case anew ---- */
 
@@ -90,7 +90,7 @@ void one_of(size_t count);
 void middle_frames(size_t count);
 void long_frames(size_t count);
 
-/* ---- Calls ---- */
+/* ---- Calls; frames are of version 2 ---- */
 
 void to_check(const Message *message);
 void to_fresh(uint8_t own);
@@ -99,20 +99,23 @@ void to_beacon(uint8_t length);
 void to_receive(const Message *message);
 void to_trace(const Message *message);
 
+/* Makes the frame of the call one of version 1. */
+void as_version_1(void);
+
 /* To receive, and to read the log records. */
 void to_receive_and_read(const Message *message);
 
 /* A bundle of 8 frames, to go through it or to receive them: those of the panels 50 to 57, with
    deadlines from 2000 on, in one form. */
-typedef Message Form(uint8_t source, uint32_t deadline);
+typedef Message Form(uint8_t source, uint64_t deadline);
 void to_bundle(Form form);
 void to_receive_bundle(Form form);
 
 /* A log of so many records. */
 void to_log(size_t count);
 
-void to_clock(uint32_t time);
-void to_set_back(uint32_t time);
+void to_clock(uint64_t time);
+void to_set_back(uint64_t time);
 
 /* A chain of so many, and the send that settles it. */
 void chain_and_send(size_t count);

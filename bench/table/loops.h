@@ -30,7 +30,7 @@ INLINED void put_back(const Worked *worked)
                (const uint8_t *)worked->kept + worked->from, worked->changed);
     if (worked->raised)
         memcpy((uint8_t *)worked->record + worked->floor,
-               (const uint8_t *)worked->kept + worked->floor, sizeof(uint32_t));
+               (const uint8_t *)worked->kept + worked->floor, sizeof(uint64_t));
 }
 
 /* ---- What a caller does with an answer ---- */
@@ -46,7 +46,7 @@ typedef struct {
     size_t handed;
     size_t refused;
     size_t ready; /* traces of messages that are ready */
-    uint32_t deadline;
+    uint64_t deadline;
     uint8_t source;
     uint8_t length;
     uint8_t payload[PAYLOAD_MAX];
@@ -66,7 +66,7 @@ INLINED void look(uint8_t number, size_t count)
 }
 
 /* Takes a message out of a log, with the zeros behind its payload. */
-INLINED void take(uint8_t source, uint32_t deadline, const uint8_t *payload, uint8_t length)
+INLINED void take(uint8_t source, uint64_t deadline, const uint8_t *payload, uint8_t length)
 {
     caller.source = source;
     caller.deadline = deadline;

@@ -1,6 +1,8 @@
 /* What the rows share: the answer of each side is held to that of the row. */
 #include "rows.h"
 
+#include "../reference_frames.h"
+
 #include <stdio.h>
 #include <stdlib.h>
 #include <string.h>
@@ -30,7 +32,9 @@ void row(const char *label, uint8_t number, size_t count)
 
 void damaged(uint8_t number)
 {
-    size_t length_at = now.length == FRAME_MIN ? FRAME_MIN - 1 : FRAME_MAX - 33;
+    size_t width = width_of(now.bytes);
+    size_t shortest = entries_at(width) + 1;
+    size_t length_at = now.length - 1 - (now.length == shortest ? 0 : PAYLOAD_MAX);
 
     switch (number) {
     case 1:
@@ -40,16 +44,16 @@ void damaged(uint8_t number)
         now.bytes[2]++;
         break;
     case 3:
-        now.bytes[4]++;
+        now.bytes[VERSION_AT + 1] = 3;
         break;
     case 4:
-        now.bytes[5] = PANELS;
+        now.bytes[SOURCE_AT] = PANELS;
         break;
     case 5:
-        memset(now.bytes + 6, 0, 4);
+        memset(now.bytes + DEADLINE_AT, 0, width);
         break;
     case 6: /* the last entry is the deadline */
-        memcpy(now.bytes + length_at - 4, now.bytes + 6, 4);
+        memcpy(now.bytes + length_at - width, now.bytes + DEADLINE_AT, width);
         break;
     case 7:
         now.bytes[length_at] = PAYLOAD_MAX + 1;

@@ -19,8 +19,8 @@ void each_row(Visit *visit);
 void row(const char *label, uint8_t number, size_t count);
 
 /*
- * Damages the frame at hand, of 19 bytes or the longest, so that its reading
- * refuses it with the number.
+ * Damages the frame at hand, the shortest or the longest of its version, so that
+ * its reading refuses it with the number.
  */
 void damaged(uint8_t number);
 

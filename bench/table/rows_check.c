@@ -3,34 +3,54 @@
 
 #include <stdio.h>
 
-static void damaged_check_row(const Message *message, uint8_t number)
+/* A check of a frame, whole or damaged, whose version is named if it is 1. */
+static void check_row(const Message *message, bool version_1, uint8_t number)
 {
     char label[80];
+    int entries = __builtin_popcountll(message->mask);
 
     to_check(message);
-    damaged(number);
-    snprintf(label, sizeof label, "frame check refused, %u, %zu bytes", number, now.length);
+    if (version_1)
+        as_version_1();
+    if (number != 0)
+        damaged(number);
+    int end = snprintf(label, sizeof label, "frame check%s", version_1 ? " of version 1" : "");
+    if (number != 0)
+        end += snprintf(label + end, sizeof label - (size_t)end, " refused, %u", number);
+    else if (entries != 0)
+        end += snprintf(label + end, sizeof label - (size_t)end, ", %d entries", entries);
+    snprintf(label + end, sizeof label - (size_t)end, ", %zu bytes", now.length);
     row(label, number, 0);
+}
+
+/* The frame is damaged so that it is refused with each number. 2 and 3 are tried in version 2
+   alone: they come before the versions part. */
+static void refused_rows(const Message *message, bool version_1)
+{
+    for (uint8_t number = 1; number <= 8; number++) {
+        bool apart = number != 2 && number != 3;
+        bool can = number != 6 || message->mask != 0;
+        if (can && (apart || !version_1))
+            check_row(message, version_1, number);
+    }
+}
+
+static void version_rows(bool version_1)
+{
+    Message shortest = plain(5, 1000, 0), between = middle(5, 1000), largest = longest(5, 1000);
+
+    check_row(&shortest, version_1, 0);
+    check_row(&between, version_1, 0);
+    check_row(&largest, version_1, 0);
+    refused_rows(&shortest, version_1);
+    refused_rows(&largest, version_1);
 }
 
 void check_rows(void)
 {
-    Message shortest = plain(5, 1000, 0), largest = longest(5, 1000);
-    Message between = middle(5, 1000);
-
     empty();
-    to_check(&shortest);
-    row("frame check, 19 bytes", 0, 0);
-    to_check(&between);
-    row("frame check, 16 entries, 99 bytes", 0, 0);
-    to_check(&largest);
-    row("frame check, 64 entries, 307 bytes", 0, 0);
-    for (uint8_t number = 1; number <= 8; number++) {
-        if (number != 6) /* it has no entry */
-            damaged_check_row(&shortest, number);
-    }
-    for (uint8_t number = 1; number <= 8; number++)
-        damaged_check_row(&largest, number);
+    version_rows(false);
+    version_rows(true);
 }
 
 void reader_rows(void)

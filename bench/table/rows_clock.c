@@ -19,7 +19,7 @@ static void waiting_rows(void)
     row("clock, 32 waiting of 16 entries, none ready", 0, 0);
     long_frames(32);
     to_clock(11);
-    row("clock, 32 waiting of 307 bytes, none ready", 0, 0);
+    row("clock, 32 waiting of 64 entries, none ready", 0, 0);
 }
 
 static void settle_row(const char *label, size_t count)
@@ -41,7 +41,7 @@ static void settle_rows(void)
     middle_frames(32);
     settle_row("clock, settle of 32 of 16 entries", 32);
     long_frames(32);
-    settle_row("clock, settle of 32 of 307 bytes", 32);
+    settle_row("clock, settle of 32 of 64 entries", 32);
 }
 
 /* The first of them, or all. */

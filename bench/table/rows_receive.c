@@ -21,7 +21,7 @@ static void ready_rows(void)
     long_frames(0);
     now.panel.marks[62] = 600;
     to_receive(&largest);
-    row("receive, ready, 307 bytes, 0 waiting", 0, 1);
+    row("receive, ready, 64 entries, 0 waiting", 0, 1);
 }
 
 /* Ready ones whose entries are those of the barrier; in the rows above they remove none of it. */
@@ -75,12 +75,35 @@ static void waits_rows(void)
     middle_frames(0);
     to_receive(&between);
     row("receive, waits, 16 entries, 0 waiting", 0, 0);
+    long_frames(0);
+    to_receive(&largest);
+    row("receive, waits, 64 entries, 0 waiting", 0, 0);
     middle_frames(31);
     to_receive(&between);
     row("receive, waits, 16 entries, 31 such waiting", 0, 0);
     long_frames(31);
     to_receive(&largest);
-    row("receive, waits, 307 bytes, 31 such waiting", 0, 0);
+    row("receive, waits, 64 entries, 31 such waiting", 0, 0);
+}
+
+/* The same of version 1. */
+static void version_1_rows(void)
+{
+    Message ready = usual(50, 2000), waits = early(50, 2000), largest = longest(50, 2000);
+
+    empty();
+    to_receive(&ready);
+    as_version_1();
+    row("receive of version 1, ready, 0 waiting", 0, 1);
+    to_receive(&waits);
+    as_version_1();
+    row("receive of version 1, waits, 0 waiting", 0, 0);
+    long_frames(0);
+    to_receive(&largest);
+    as_version_1();
+    row("receive of version 1, waits, 64 entries", 0, 0);
+    now.panel.marks[62] = 600;
+    row("receive of version 1, ready, 64 entries", 0, 1);
 }
 
 static void settle_rows(void)
@@ -126,7 +149,7 @@ static void read_rows(void)
 }
 
 /* A frame that the record had already, with a deadline under 700. */
-static Message had(uint8_t source, uint32_t deadline)
+static Message had(uint8_t source, uint64_t deadline)
 {
     return usual(source, deadline - 1400);
 }
@@ -148,6 +171,7 @@ void receive_rows(void)
     shorter_rows();
     floor_rows();
     waits_rows();
+    version_1_rows();
     settle_rows();
     read_rows();
     bundle_rows();

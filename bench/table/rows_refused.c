@@ -3,22 +3,25 @@
 
 #include <stdio.h>
 
-/* By the reading: the longest frame, damaged, and one of 18 bytes. */
+static void damaged_row(const Message *message, uint8_t number)
+{
+    char label[80];
+
+    to_receive(message);
+    damaged(number);
+    snprintf(label, sizeof label, "receive refused, %u, %zu bytes", number, now.length);
+    row(label, number, 0);
+}
+
+/* By the reading: the longest frame, damaged, and the shortest without a byte. */
 static void by_reading_rows(void)
 {
     Message largest = longest(50, 2000), shortest = plain(50, 2000, 0);
-    char label[80];
 
     empty();
-    to_receive(&shortest);
-    damaged(1);
-    row("receive refused, 1, 18 bytes", 1, 0);
-    for (uint8_t number = 1; number <= 8; number++) {
-        to_receive(&largest);
-        damaged(number);
-        snprintf(label, sizeof label, "receive refused, %u, %zu bytes", number, now.length);
-        row(label, number, 0);
-    }
+    damaged_row(&shortest, 1);
+    for (uint8_t number = 1; number <= 8; number++)
+        damaged_row(&largest, number);
 }
 
 static void with_none_waiting_rows(void)

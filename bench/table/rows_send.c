@@ -62,7 +62,7 @@ static void refused_rows(void)
     now.frame_length = FRAME_MAX - 1;
     row("send refused, 10 by frame buffer, 0 waiting", 10, 0);
     now.frame_length = FRAME_MAX;
-    now.panel.time = UINT32_MAX;
+    now.panel.time = UINT64_MAX;
     row("send refused, 24, 0 waiting", 24, 0);
     empty();
     to_send(32, 0);

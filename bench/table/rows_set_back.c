@@ -13,7 +13,7 @@ static void accepted_rows(void)
     row("set back, 32 waiting", 0, 0);
     long_frames(32);
     to_set_back(9);
-    row("set back, 32 waiting of 307 bytes", 0, 0);
+    row("set back, 32 waiting of 64 entries", 0, 0);
 }
 
 static void refused_rows(void)

@@ -2,7 +2,7 @@
 #include "rows.h"
 
 /* A message with an entry that is met and one of a panel and a deadline. */
-static Message two_entries(uint8_t source, uint32_t deadline)
+static Message two_entries(uint8_t source, uint64_t deadline)
 {
     Message message = plain(50, 2000, 32);
 
@@ -57,10 +57,10 @@ static void refused_rows(void)
     empty();
     to_trace(&shortest);
     damaged(1);
-    row("trace, 1, 18 bytes", 1, 0);
+    row("trace, 1, too short by a byte", 1, 0);
     to_trace(&largest);
     damaged(8);
-    row("trace, 8, 308 bytes", 8, 0);
+    row("trace, 8, longer than the longest by a byte", 8, 0);
     far_ahead.deadline = now.panel.time + PANEL_FARTHEST_AHEAD + 1;
     to_trace(&far_ahead);
     row("trace, 32, 2 entries, 0 waiting", 32, 2);

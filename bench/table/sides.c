@@ -23,7 +23,7 @@ static void find_changed(Worked *worked, size_t waiting)
         to--;
     worked->from = from;
     worked->changed = to - from;
-    worked->raised = memcmp(before + worked->floor, after + worked->floor, sizeof(uint32_t)) != 0;
+    worked->raised = memcmp(before + worked->floor, after + worked->floor, sizeof(uint64_t)) != 0;
 }
 
 static Side start_side(const Loops *of)

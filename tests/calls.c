@@ -156,8 +156,7 @@ static void fill(void)
 
     full = (Step){__LINE__, RECEIVE, .at = 7};
     for (unsigned i = 0; i < PANEL_WAITING_MAX; i++) {
-        snprintf(frames[i], sizeof frames[i],
-                 "445259 0002 02 +%x +2 +32 00", 100 + i);
+        snprintf(frames[i], sizeof frames[i], "445259 0002 02 +%x +2 +32 00", 100 + i);
         full.bytes = frames[i];
         full.record.waiting[i] = frames[i];
         step(&full);
@@ -258,8 +257,7 @@ static const Step settling[] = {
 };
 
 /* Marks tell what is ready and what was had; the barrier, which a send empties, does not. */
-#define FROM_9_DUE_500_AFTER_1_AND_4 \
-    "445259 0002 09 +1f4 +12 +64 +32 00"
+#define FROM_9_DUE_500_AFTER_1_AND_4 "445259 0002 09 +1f4 +12 +64 +32 00"
 
 static const Step after_a_send[] = {
     {__LINE__, RECEIVE, .at = 2, .bytes = CHAIN_1, .log = {"01 +64 01 61"},

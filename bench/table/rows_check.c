@@ -6,7 +6,7 @@
 /* A check of a frame, whole or damaged, whose version is named if it is 1. */
 static void check_row(const Message *message, bool version_1, uint8_t number)
 {
-    char label[80];
+    char label[80], what[40] = "";
     int entries = __builtin_popcountll(message->mask);
 
     to_check(message);
@@ -14,12 +14,12 @@ static void check_row(const Message *message, bool version_1, uint8_t number)
         as_version_1();
     if (number != 0)
         damaged(number);
-    int end = snprintf(label, sizeof label, "frame check%s", version_1 ? " of version 1" : "");
     if (number != 0)
-        end += snprintf(label + end, sizeof label - (size_t)end, " refused, %u", number);
+        snprintf(what, sizeof what, " refused, %u", number);
     else if (entries != 0)
-        end += snprintf(label + end, sizeof label - (size_t)end, ", %d entries", entries);
-    snprintf(label + end, sizeof label - (size_t)end, ", %zu bytes", now.length);
+        snprintf(what, sizeof what, ", %d entries", entries);
+    snprintf(label, sizeof label, "frame check%s%s, %zu bytes", what,
+             version_1 ? ", version 1" : "", now.length);
     row(label, number, 0);
 }
 

@@ -94,16 +94,16 @@ static void version_1_rows(void)
     empty();
     to_receive(&ready);
     as_version_1();
-    row("receive of version 1, ready, 0 waiting", 0, 1);
+    row("receive, version 1, ready, 0 waiting", 0, 1);
     to_receive(&waits);
     as_version_1();
-    row("receive of version 1, waits, 0 waiting", 0, 0);
+    row("receive, version 1, waits, 0 waiting", 0, 0);
     long_frames(0);
     to_receive(&largest);
     as_version_1();
-    row("receive of version 1, waits, 64 entries", 0, 0);
+    row("receive, version 1, waits, 64 entries", 0, 0);
     now.panel.marks[62] = 600;
-    row("receive of version 1, ready, 64 entries", 0, 1);
+    row("receive, version 1, ready, 64 entries", 0, 1);
 }
 
 static void settle_rows(void)

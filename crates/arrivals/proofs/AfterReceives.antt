@@ -7,7 +7,6 @@ use mathlib.Core.Logic.{_⊎_, inl, inr, ⊎-elim, _≢_, by-cases}
 use mathlib.Core.List.{List, [], _∷_, _++_, map, map-append, append-assoc, append-nil, List·Memᴰ·head as first, List·Memᴰ·tail as later, List·Memᴰ·append-cases, Memᴰ·append-left, Memᴰ·append-right, Memᴰ·cast, Memᴰ·of-map}
 use Rattle.frame.specs.Message.{Message}
 use Rattle.frame.specs.Reading.{messageFrom}
-use Rattle.rules.specs.Sizes.{width}
 use Rattle.rules.specs.Panel.{Name, nameOf, Make, Panel, ofMake}
 use Rattle.rules.specs.Handing.{logRecord}
 use Rattle.rules.specs.Settling.{Settled}

@@ -1,11 +1,9 @@
 -- An order of receiving frames at a panel, after a list of demand 3: what holds of it alone. Assumes nothing.
 use Prim.Native.Nat.{ℕ}
-use mathlib.Core.Path.{_≡_, ap, subst, subst⁻¹}
+use mathlib.Core.Path.{_≡_, subst, subst⁻¹}
 use mathlib.Core.Logic.{_⊎_, inl, inr, ⊎-elim}
 use mathlib.Core.List.{List, [], _∷_, _++_, map, List·Memᴰ·append-cases, Memᴰ·append-left, Memᴰ·append-right, Memᴰ·map, Memᴰ·of-map, List·Nodup}
 use Rattle.frame.specs.Message.{Message}
-use Rattle.frame.specs.Reading.{messageFrom}
-use Rattle.rules.specs.Sizes.{width}
 use Rattle.rules.specs.Panel.{Name, nameOf, Make, Panel}
 use Rattle.rules.specs.Lists.{_isIn_, Made, recordAt, givenTo, logAt, sends, Lawful, AllPromised}
 use Rattle.rules.specs.Demand3.{Ahead}
@@ -16,7 +14,7 @@ use Rattle.rules.proofs.Steps.{ListSound}
 use Rattle.rules.proofs.Reached.{list-sound}
 use Rattle.arrivals.specs.Arrival.{AllHeard, recordsAt}
 use Rattle.arrivals.proofs.Sets.{names-once, Distinct-once}
-use Rattle.arrivals.proofs.SentFrames.{sent-unique, heard-lawful, frames-sent, sent-in, heard-promised}
+use Rattle.arrivals.proofs.SentFrames.{sent-unique, AllRead, sends-read, carries-sent, heard-lawful, frames-sent, sent-in, heard-promised}
 use Rattle.arrivals.proofs.Records.{nameAt, log-names}
 use Rattle.arrivals.proofs.HandAll.{bare}
 use Rattle.arrivals.proofs.Barrier.{Exact, handAll-exact}
@@ -25,11 +23,11 @@ use Rattle.arrivals.proofs.AfterReceives.{HereAt, FromFrames, After, no
 use Rattle.arrivals.proofs.LogOrder.{ahead-append, ordered-end, above-end}
 
 -- what was handed or waits was sent
-here-sent : {i : ℕ} {make : Make} {list : List Made} {frames : List (List ℕ)} {heard : List Made} → ListSound list → AllHeard (sends list) i make frames heard
+here-sent : {i : ℕ} {make : Make} {list : List Made} {frames : List (List ℕ)} {heard : List Made} → ListSound list → AllRead (sends list) → AllHeard (sends list) i make frames heard
     → (A : After i make list frames heard) → (w : Message) → HereAt i (A .handed) (heard ++ list) w → WasSent (sends list) w
-here-sent {i} {make} {list} {frames} {heard} L all A w h =
+here-sent {i} {make} {list} {frames} {heard} L read all A w h =
     ⊎-elim (L .sites i .sound .waits .sent w)
-    (λ (q : FromFrames (givenTo i make list) frames w). subst (WasSent (sends list)) (q .2) (frames-sent (sends list) i make frames heard all (q .0) (q .1)))
+    (λ (q : FromFrames (givenTo i make list) frames w). subst (WasSent (sends list)) (q .2) (frames-sent read i make frames heard all (q .0) (q .1) .1))
     (A .only w h)
 
 after : (list : List Made) → Lawful list → AllPromised list → (i : ℕ) (make : Make) (frames : List (List ℕ)) (heard : List Made)
@@ -38,11 +36,12 @@ after list lawful promised₀ i make [] [] all promised = none-heard i make list
 after list lawful promised₀ i make (frame ∷ frames) (last ∷ heard) (H, all) (promise, promised) =
     let A = after list lawful promised₀ i make frames heard all promised in
     let L₀ = list-sound list lawful promised₀ in
+    let read = sends-read list lawful promised₀ in
     let F = sent-in list lawful i make frame frames last heard (H, all) promised in
     let R = received (givenTo i make (heard ++ list)) frame (H .output) (F .readable) .1 in
     one-heard A H (heard-promised (heard ++ list) H promise) R F
     (λ w h e.
-    sent-unique (L₀ .sends-sound) (here-sent L₀ all A w h) (let (t, k, f) = H .was-sent in (t, k, ap (λ (bs : List ℕ). messageFrom bs) f)) e)
+    sent-unique (L₀ .sends-sound) (here-sent L₀ read all A w h) (carries-sent read frame (H .was-sent) .1) e)
 
 -- the receives, what they hand, and that it is a list of demand 3
 pub record Order (i : ℕ) (make : Make) (list : List Made) (frames : List (List ℕ)) (heard : List Made) : Type 0 where
@@ -60,7 +59,7 @@ order list lawful promised₀ i make frames heard all promised =
       sound = list-sound (heard ++ list) lawful′ promised;
       same-sends = same;
       after = A;
-      sent = λ w k. here-sent (list-sound list lawful promised₀) all A w (inl k);
+      sent = λ w k. here-sent (list-sound list lawful promised₀) (sends-read list lawful promised₀) all A w (inl k);
     }
 
 module _ {i : ℕ} {make : Make} {list : List Made} {frames : List (List ℕ)} {heard : List Made} (O : Order i make list frames heard) where

@@ -1,5 +1,5 @@
 -- The log records of a panel: those of an output, that their sources and deadlines are the log, and those after one more call. Assumes nothing.
-use Prim.Native.Nat.{ℕ, zero, suc}
+use Prim.Native.Nat.{ℕ, zero, suc, _-_}
 use native.Mathlib.Omega.{arith}
 use mathlib.Core.Path.{_≡_, refl, sym, ap, _∙_}
 use mathlib.Core.Bool.{Bool, true, false, cond}
@@ -48,7 +48,7 @@ nameAt-take : (output : List ℕ) → nameAt (take logRecordLength output) ≡ n
 unfolding numberAt
 nameAt-take output =
     name-path (ap number (take-take 1 logRecordLength output (omega arith)))
-    (ap number (ap (take width) (drop-one 37 output) ∙ take-take width 37 (drop 1 output) (omega arith)))
+    (ap number (ap (take width) (drop-one (logRecordLength - 1) output) ∙ take-take width (logRecordLength - 1) (drop 1 output) (omega arith)))
 
 namesIn-recordsIn : (count : ℕ) (output : List ℕ) → namesIn count output ≡ map nameAt (recordsIn count output)
 unfolding namesIn recordsIn

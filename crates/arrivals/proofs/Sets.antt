@@ -63,7 +63,7 @@ isIn-found frame frames i = go (isIn-or-not frame frames)
 
 -- A list of frames in another order has the same frames.
 pub permuted-frames : {one two : List (List ℕ)} → Perm one two → SameFrames one two
-permuted-frames {one} {two} permuted frame = (
-  λ i. isIn-found frame two (Perm·mem-iff permuted .0 ∣ i ∣₁),
-  λ i. isIn-found frame one (Perm·mem-iff permuted .1 ∣ i ∣₁),
+permuted-frames {one} {two} permuted = (
+  λ frame i. (frame, isIn-found frame two (Perm·mem-iff permuted .0 ∣ i ∣₁), refl),
+  λ frame i. (frame, isIn-found frame one (Perm·mem-iff permuted .1 ∣ i ∣₁), refl),
 )

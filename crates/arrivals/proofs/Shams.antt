@@ -8,12 +8,12 @@ use mathlib.Core.List.{List, [], _∷_, _++_, List·Memᴰ·head as first, List�
 use lib.ListN.{replicate, length-replicate}
 use Rattle.frame.specs.Refusal.{firstOf}
 use Rattle.frame.specs.Reading.{messageFrom}
-use Rattle.rules.specs.Sizes.{width}
+use Rattle.rules.specs.Sizes.{outputLength}
 use Rattle.rules.specs.Panel.{Make, newMake, Panel, ready}
 use Rattle.rules.specs.Settling.{withWaiting, Settled, handThen, settleIn}
 use Rattle.rules.specs.Refusals.{receiveChecks}
 use Rattle.rules.specs.Results.{Call, send, receive, clock, setBack, Result, refused, done, unless, defined}
-use Rattle.rules.specs.Lists.{_isIn_, Made, givenTo, Sent, sends, Given, ran}
+use Rattle.rules.specs.Lists.{Made, givenTo, Sent, sends, CarriesSent, Given, ran}
 use Rattle.rules.specs.Cases.{output, buffer, frameFrom, zeros4}
 use Rattle.rules.specs.BenchCases.{deadline1, frame1, frame2}
 use Rattle.rules.proofs.Shams.{listsOpened, payload-bytes, empty-bytes}
@@ -75,7 +75,7 @@ unfolding asSent reversed
 same-frames = permuted-frames (reverse-perm (frame1 ∷ frame2 ∷ frame3 ∷ []))
 
 -- a receive of a frame that was sent, with the output of the cases, which is not refused
-pub taken-heard : {ss : List Sent} (panel : ℕ) (make : Make) (frame : List ℕ) (made : Made) → (s : Sent) × (s isIn ss) × (s .frame ≡ frame)
+pub taken-heard : {ss : List Sent} (panel : ℕ) (make : Make) (frame : List ℕ) (made : Made) → CarriesSent ss frame
     → made .at ≡ panel → made .make ≡ make → made .call ≡ receive frame output → made .result .number ≡ 0 → Heard ss panel make frame made
 taken-heard panel make frame made sent at of-make receives taken =
     record {
@@ -84,12 +84,12 @@ taken-heard panel make frame made sent at of-make receives taken =
       output = output;
       receives = receives;
       was-sent = sent;
-      long-enough = omega (arith, length-replicate {A = ℕ} 1254 7);
+      long-enough = omega (arith, length-replicate {A = ℕ} outputLength 7);
       not-23 = λ e. omega (arith, e, taken);
     }
 
 abbrev SentBy : (Panel → Call → Result) → List ℕ → Type 0
-SentBy gives frame = (s : Sent) × (s isIn sends (threeSent gives)) × (s .frame ≡ frame)
+SentBy gives frame = CarriesSent (sends (threeSent gives)) frame
 
 abbrev TakenBy : (Panel → Call → Result) → List ℕ → List (List ℕ) → Type 0
 TakenBy gives frame earlier = heardNext gives frame (hears gives earlier) .result .number ≡ 0

@@ -13,11 +13,11 @@ use Rattle.frame.specs.Refusal.{firstOf}
 use Rattle.frame.specs.Reading.{checks, widthIn, refusalOf, messageFrom}
 use Rattle.frame.proofs.Conjunction.{and-both}
 use Rattle.frame.proofs.FirstOf.{eachNumber, firstOf-right}
-use Rattle.rules.specs.Sizes.{width, outputLength}
+use Rattle.rules.specs.Sizes.{outputLength}
 use Rattle.rules.specs.Panel.{nameOf, Make, Panel, lapsed, ready}
 use Rattle.rules.specs.Refusals.{broken, isWaiting, farthestAhead, tooFarAhead, messageChecks, receiveChecks}
 use Rattle.rules.specs.Results.{receive, defined}
-use Rattle.rules.specs.Lists.{_isIn_, Made, recordAt, givenTo, nameIn, logAt, sends}
+use Rattle.rules.specs.Lists.{_isIn_, Made, recordAt, givenTo, logAt, sends}
 use Rattle.rules.proofs.Booleans.{or-either}
 use Rattle.rules.proofs.Ready.{limit, limit-ofMake, lapsed-true, dead-limit}
 use Rattle.rules.proofs.Checks.{false-broken}
@@ -75,7 +75,7 @@ module _ (earlier : List Made) (i : ℕ) (make : Make) (bytes output : List ℕ)
   m = messageFrom bytes
 
   known : Known (sends earlier) (nameOf m)
-  known = let (s, k, e) = F .sent in (s, k, ap nameIn e)
+  known = let (s, k, e) = F .sent in (s, k, ap nameOf e)
 
   whole : p .own < 64 → broken p ≡ false
   unfolding broken
@@ -110,8 +110,8 @@ module _ (earlier : List Made) (i : ℕ) (make : Make) (bytes output : List ℕ)
           → Placed (logAt i earlier) (p .waiting) (nameOf m)
       go true had a b =
           let (s, k, f) = F .sent in
-          inl (Memᴰ·cast (sym (ap nameIn f))
-          (L .sites i .mine s k (ap (λ bs. nameIn bs .source) f ∙ eqb-true (m .source) (p .own) a ∙ L .sites i .own)))
+          inl (Memᴰ·cast (sym (ap nameOf f))
+          (L .sites i .mine s k (ap (λ (x : Message). x .source) f ∙ eqb-true (m .source) (p .own) a ∙ L .sites i .own)))
       go false true a b =
           ⊎-elim (λ le. inl (logged takeable (leb-true (m .deadline) (getD (p .marks) (m .source) 0) le)))
           (λ w. inr (isWaiting-true m (p .waiting) w))

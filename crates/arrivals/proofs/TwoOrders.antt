@@ -8,6 +8,7 @@ use mathlib.Core.Logic.{inl, inr, ⊎-elim, by-cases}
 use mathlib.Core.List.{List, _++_, List·Memᴰ·append-cases, Memᴰ·append-left, Memᴰ·append-right, Memᴰ·cast, Memᴰ·map, Memᴰ·of-map}
 use lib.ListN.{getD}
 use Rattle.frame.specs.Message.{Message}
+use Rattle.frame.specs.Reading.{messageFrom}
 use Rattle.rules.specs.Panel.{Name, nameOf, Make, Panel}
 use Rattle.rules.specs.Handing.{logRecord}
 use Rattle.rules.specs.Lists.{_isIn_, Made, recordAt, givenTo, logAt, sends, Before}
@@ -20,9 +21,9 @@ use Rattle.arrivals.proofs.Receiving.{Takeable}
 use Rattle.arrivals.proofs.AfterReceives.{HereAt, FromFrames, same-limit}
 use Rattle.arrivals.proofs.OneOrder.{Order, log-split, log-was, log-handed, new}
 
--- of the frames received in the one order, each is received in the other
+-- of the frames received in the one order, each is received in the other, or one of the same message
 module _ {i : ℕ} {make : Make} {list : List Made} {framesOne framesTwo : List (List ℕ)} {one two : List Made} (O : Order i make list framesOne one)
-    (T : Order i make list framesTwo two) (frames : (frame : List ℕ) → frame isIn framesOne → frame isIn framesTwo) where
+    (T : Order i make list framesTwo two) (frames : (frame : List ℕ) → frame isIn framesOne → (same : List ℕ) × (same isIn framesTwo) × (messageFrom same ≡ messageFrom frame)) where
   abbrev p : Panel
   p = recordAt i (one ++ list)
 
@@ -43,8 +44,10 @@ module _ {i : ℕ} {make : Make} {list : List Made} {framesOne framesTwo : List 
     where
       taken : FromFrames (givenTo i make list) framesOne w → HereAt i (T .after .handed) (two ++ list) w
       taken (frame, k, e, t) =
-          ⊎-elim (λ j. absurd (new O w h (Memᴰ·cast (sym (ap nameOf e)) j))) (λ g. subst (HereAt i (T .after .handed) (two ++ list)) e g)
-          (T .after .came frame (frames frame k) (subst⁻¹ (Takeable (givenTo i make list)) e t))
+          let (same, i′, f) = frames frame k in
+          let is = f ∙ e in
+          ⊎-elim (λ j. absurd (new O w h (Memᴰ·cast (sym (ap nameOf is)) j))) (λ g. subst (HereAt i (T .after .handed) (two ++ list)) is g)
+          (T .after .came same i′ (subst⁻¹ (Takeable (givenTo i make list)) is t))
 
   -- What was handed in the one was handed in the other: by induction on its deadline, all that is before it was.
   handed-below : (above : ℕ) (w : Message) → w .deadline < above → w isIn O .after .handed → w isIn T .after .handed

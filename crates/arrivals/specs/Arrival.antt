@@ -2,7 +2,8 @@
 --
 -- Operators at two ends compare logs and ask if something is missing. A panel that hears some frames in one order ends as it does in any other: with
 -- equal time, high, marks, barrier and floor, the same log records and the same waiting messages. Only the order in which these stand may differ; that
--- of the log is an order of cause, whichever it is (demand 3). A frame may come once in the one and ten times in the other.
+-- of the log is an order of cause, whichever it is (demand 3). A frame may come once in the one and ten times in the
+-- other, and as version 1 in the one and as version 2 in the other.
 --
 -- What is asked for, and what may happen without it (ArrivalCases.antt has a case for each: two orders that end otherwise, computed by the definitions):
 --   the record is one that a list reaches    caseNotReached: a message waits that is ready, and goes with whatever is taken first
@@ -23,10 +24,11 @@ use mathlib.Core.Bool.{Bool, true, cond, _||_}
 use mathlib.Core.List.{List, [], _∷_, _++_, Perm, List·Nodup}
 use lib.ListN.{length, take, drop}
 use lib.Dec.{eqb}
+use Rattle.frame.specs.Reading.{readingOf}
 use Rattle.rules.specs.Sizes.{logRecordLength, outputLength}
 use Rattle.rules.specs.Panel.{Make}
 use Rattle.rules.specs.Results.{receive}
-use Rattle.rules.specs.Lists.{_isIn_, Made, on, recordAt, Sent, sends, AllPromised}
+use Rattle.rules.specs.Lists.{_isIn_, Made, on, recordAt, Sent, sends, CarriesSent, AllPromised}
 
 -- ---- what is received
 
@@ -36,8 +38,8 @@ pub record Heard (sent : List Sent) (panel : ℕ) (make : Make) (frame : List �
   pub of-make : made .make ≡ make
   pub output : List ℕ
   pub receives : made .call ≡ receive frame output
-  -- The frame was sent,
-  pub was-sent : (s : Sent) × (s isIn sent) × (s .frame ≡ frame)
+  -- The frame was sent, or is that of version 1 of a message that was,
+  pub was-sent : CarriesSent sent frame
   -- the output is long enough,
   pub long-enough : outputLength ≤ length output
   -- and 23 was not answered.
@@ -50,9 +52,13 @@ AllHeard sent panel make [] (made ∷ earlier) = ⊥
 AllHeard sent panel make (frame ∷ frames) [] = ⊥
 AllHeard sent panel make (frame ∷ frames) (made ∷ earlier) = Heard sent panel make frame made × AllHeard sent panel make frames earlier
 
--- the same frames, each however often and in whatever order
+-- of each frame of the one, the other has the same or its message's of the other version
+abbrev pub EachIn : List (List ℕ) → List (List ℕ) → Type 0
+EachIn one two = (frame : List ℕ) → frame isIn one → (same : List ℕ) × (same isIn two) × (readingOf same ≡ readingOf frame)
+
+-- the same frames, each however often, in whatever order, and in whichever version
 abbrev pub SameFrames : List (List ℕ) → List (List ℕ) → Type 0
-SameFrames one two = (frame : List ℕ) → (frame isIn one) ↔ (frame isIn two)
+SameFrames one two = EachIn one two × EachIn two one
 
 -- ---- what it ends with
 

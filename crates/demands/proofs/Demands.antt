@@ -8,11 +8,11 @@ use native.Mathlib.Omega.{arith}
 use lib.ListN.{length, getD, take}
 use Rattle.numbers.specs.Numbers.{Bytes}
 use Rattle.frame.specs.Message.{Message}
-use Rattle.frame.specs.Frame.{frame}
-use Rattle.frame.specs.Reading.{message, refusal, messageIn, reading}
+use Rattle.frame.specs.Frame.{narrow, wide, Width, frame}
+use Rattle.frame.specs.Reading.{versionIn, widthIn, message, refusalOf, messageFrom, readingOf}
 use Rattle.frame.specs.Readable.{readable}
-use Rattle.frame.proofs.Theorems.{reading-frame, frame-reading}
-use Rattle.rules.specs.Sizes.{width, outputLength}
+use Rattle.frame.proofs.Theorems.{readingOf-frame, frame-readingOf, unreadable-past, readable-wider}
+use Rattle.rules.specs.Sizes.{outputLength}
 use Rattle.rules.specs.Panel.{Name, Make, oldMake, Panel}
 use Rattle.rules.specs.Handing.{hand}
 use Rattle.rules.specs.Calls.{newMessage}
@@ -25,7 +25,7 @@ use Rattle.rules.specs.Demand3.{Demand3}
 use Rattle.rules.specs.FarAhead.{FarAhead}
 use Rattle.rules.specs.Cases.{withFloor}
 use Rattle.barriers.specs.Barriers.{asOld, NoLonger, StaysOrGoes}
-use Rattle.rules.proofs.Theorems.{demand-3, number-listed, reading-listed, fresh-listed, refusal-unchanged, sent-reads}
+use Rattle.rules.proofs.Theorems.{demand-3, number-listed, reading-listed, fresh-listed, refusal-unchanged, sent-reads, sent-version}
 use Rattle.visits.proofs.Visiting.{visits-counted}
 use Rattle.visits.proofs.Tracing.{trace-number, trace-listed, trace-handed, trace-waits-reached}
 use Rattle.rules.proofs.FarAhead.{far-ahead, causes-near}
@@ -49,20 +49,26 @@ pub record Demands (M : Type 1) : Type 2 where
   pub every-call : Calls M
   -- Demand 1: the answer is a result or one of the numbers in documents 01 and 02; a refusal gives back the record as it was and alters no byte.
   pub numbers : (p : Panel) (call : Call) → Listed (defined p call .number)
-  pub frame-numbers : (bytes : List ℕ) → Listed (refusal width bytes)
+  pub frame-numbers : (bytes : List ℕ) → Listed (refusalOf bytes)
   pub fresh-numbers : (own : ℕ) → Listed (freshNumber own)
   pub trace-numbers : (p : Panel) (bytes : List ℕ) → Listed (trace p bytes .number)
   pub refusals : (p : Panel) (call : Call) → defined p call .number ≢ 0
       → defined p call ≡ refused p (outputOf call) (bufferOf call) (defined p call .number)
-  -- Demand 2: a written frame reads back as its message, and bytes that read as a message are the very bytes written for it; what a send has
-  -- left in its frame buffer reads as the message that it sent.
-  pub written-reads : (m : Message) → readable width m ≡ true → reading width (frame width m) ≡ message m
-  pub read-written : (bytes : List ℕ) (m : Message) → Bytes bytes → reading width bytes ≡ message m → frame width m ≡ bytes
+  -- Demand 2, by version (document 02, W-208), here that of a width: a written frame reads back as its message, and bytes that read as a message
+  -- are the very bytes that their version writes for it. No message with a deadline past 32 bits has a frame of version 1; one that has has one of
+  -- version 2 too. What a send has left in its frame buffer reads as the message that it sent, and is of version 2.
+  pub written-reads : (width : ℕ) (m : Message) → Width width → readable width m ≡ true → readingOf (frame width m) ≡ message m
+  pub read-written : (bytes : List ℕ) (m : Message) → Bytes bytes → readingOf bytes ≡ message m → frame (widthIn bytes) m ≡ bytes
+  pub no-narrow-frame : (m : Message) → 4294967295 < m .deadline → readable narrow m ≡ false
+  pub wide-frame : (m : Message) → readable narrow m ≡ true → readable wide m ≡ true
   pub sent-reads : (p : Panel) (payload : List ℕ) (lifetime : ℕ) (output buffer : List ℕ) → length (p .barrier) ≡ 64 → Bytes payload
       → let result = defined p (send payload lifetime output buffer) in
-      result .number ≡ 0 → reading width (take (result .frameLength) (result .buffer)) ≡ message (newMessage p payload lifetime)
-  -- Demand 3: after every list of calls in a farm, in which each receive is given a frame that an earlier send of the list wrote, or is refused:
-  -- those of the module, in place and by value, which is of the new make, and those of other panels, of any make. A beacon is a send. The lists
+      result .number ≡ 0 → readingOf (take (result .frameLength) (result .buffer)) ≡ message (newMessage p payload lifetime)
+  pub sent-version : (p : Panel) (payload : List ℕ) (lifetime : ℕ) (output buffer : List ℕ)
+      → let result = defined p (send payload lifetime output buffer) in
+      result .number ≡ 0 → versionIn (take (result .frameLength) (result .buffer)) ≡ 2
+  -- Demand 3: after every list of calls in a farm, in which each receive is given a frame that an earlier send of the list wrote, or its message's
+  -- frame of version 1, or is refused: those of the module, in place and by value, which is of the new make, and those of other panels, of any make. A beacon is a send. The lists
   -- begin with the records that fresh gives.
   pub begins-in-place : BeginsInPlace
   pub begins-by-value : BeginsByValue
@@ -74,7 +80,7 @@ pub record Demands (M : Type 1) : Type 2 where
   pub trace-number : (p : Panel) (bytes output : List ℕ) → outputLength ≤ length output
       → trace p bytes .number ≡ defined p (receive bytes output) .number
   pub trace-handed : (p : Panel) (bytes output : List ℕ) → trace p bytes .ready ≡ true
-      → (later : List Message) × (effectOf p (receive bytes output) .handed ≡ messageIn width bytes ∷ later)
+      → (later : List Message) × (effectOf p (receive bytes output) .handed ≡ messageFrom bytes ∷ later)
   pub trace-waits : (list : List FarmCall) → Follows list → Lawful (farm list) → (panel : ℕ) (bytes output : List ℕ)
       → let p = recordAt panel (farm list) in
       trace p bytes .number ≡ 0 → trace p bytes .ready ≡ false → effectOf p (receive bytes output) .handed ≡ []
@@ -129,9 +135,12 @@ demands =
       fresh-numbers = fresh-listed;
       trace-numbers = trace-listed;
       refusals = refusal-unchanged;
-      written-reads = λ m e. reading-frame width m (omega arith, omega arith) e;
-      read-written = λ bytes m b e. frame-reading width bytes m b e;
+      written-reads = readingOf-frame;
+      read-written = frame-readingOf;
+      no-narrow-frame = λ m past. unreadable-past narrow m (omega (arith, past));
+      wide-frame = λ m e. readable-wider narrow wide m (omega arith) e;
       sent-reads = sent-reads;
+      sent-version = sent-version;
       begins-in-place = λ κs given answer ended learnt within. learnt .1 ∙ freshRecord-within (given .0) within;
       begins-by-value = λ κs given answer ended learnt within. learnt .1 ∙ freshRecord-within (given .0) within;
       every-list = λ list follows lawful. demand-3 (farm list) lawful (follows-promised list follows);

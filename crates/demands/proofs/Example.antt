@@ -99,8 +99,8 @@ sent = (
   panel-send (
     (some, (some, (some, tt))),
     (panel3 100 0 none64 none64, (lent (0x4f ∷ 0x4b ∷ []), (0, (lent output, (lent buffer, tt))))),
-    record { panel = panel3 100 deadline1 (only3 deadline1) (only3 deadline1); count = 1; length = 21; number = 0 },
-    (panel3 100 0 none64 none64, (lent (0x4f ∷ 0x4b ∷ []), (0, (lent (outputWith (logged1 ∷ [])), (lent (frame1 ++ drop 21 buffer), tt))))),
+    record { panel = panel3 100 deadline1 (only3 deadline1) (only3 deadline1); count = 1; length = 25; number = 0 },
+    (panel3 100 0 none64 none64, (lent (0x4f ∷ 0x4b ∷ []), (0, (lent (outputWith (logged1 ∷ [])), (lent (frame1 ++ drop 25 buffer), tt))))),
     (refl, λ refused. absurd (refused refl)),
     refl,
   ),
@@ -114,8 +114,8 @@ beaconed = (
   panel-beacon-parts (
     (some, (some, (some, (some, (some, (some, (some, (some, (some, tt))))))))),
     (3, (100, (lent deadline1, (lent 0, (lent (only3 deadline1), (lent (only3 deadline1), (lent zeros, (lent 0, (lent [], (lent output, (lent buffer, tt))))))))))),
-    record { count = 1; length = 23; number = 0 },
-    (3, (100, (lent deadline2, (lent 0, (lent (only3 deadline2), (lent (only3 deadline2), (lent zeros, (lent 0, (lent [], (lent (outputWith (logged2 ∷ [])), (lent (frame2 ++ drop 23 buffer), tt))))))))))),
+    record { count = 1; length = 31; number = 0 },
+    (3, (100, (lent deadline2, (lent 0, (lent (only3 deadline2), (lent (only3 deadline2), (lent zeros, (lent 0, (lent [], (lent (outputWith (logged2 ∷ [])), (lent (frame2 ++ drop 31 buffer), tt))))))))))),
     (refl, λ refused. absurd (refused refl)),
     refl,
   ),

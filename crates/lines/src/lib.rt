@@ -43,7 +43,7 @@ fn put_hand_line<'a, 'b>(text: &'a mut [u8], at: usize, output: &'b [u8], index:
 {
     let fields = panel_log_fields(output, index);
     let mut behind = put_start(text, at, b"hand ", fields.source as u64);
-    behind = put_item(text, behind, fields.deadline as u64, b' ');
+    behind = put_item(text, behind, fields.deadline, b' ');
     behind = put_payload(text, behind, log_payload(output, index));
     text[behind] = b'\n';
     behind + 1

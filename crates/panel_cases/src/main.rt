@@ -1,8 +1,10 @@
 // Runs the calls by value but set back, each accepted and each refused: bench cases 1, 2, 6 and 11 of
-// document 01, beacons, one of them too far ahead, a frame of W-204's busy yard, a trace of each frame
-// before its receive, and a panel number above 63. It prints a line for each call; the file stdout
+// document 01, case 2's frame in both versions, beacons, one of them too far ahead, a frame of W-204's busy
+// yard, a trace of each frame before its receive, and a panel number above 63. It prints a line for each call; the file stdout
 // beside src/ is what it must print. (tests/ runs all bench cases, in place.)
+use frame::BUFFER;
 use panel::Panel;
+use parts::OUTPUT;
 use send_by_value::Sent;
 use telling::at;
 use telling::clock;
@@ -56,6 +58,15 @@ fn beacon(p: Panel, payload: &[u8]) -> Panel {
     pass_on(b"beacon at panel ", answer, &buffer)
 }
 
+// Case 2's frame in version 1, which waits, and then in version 2, which is the same message.
+fn both_versions() {
+    let one =
+        b"DRY\x00\x01\x03\x00\x00\x1c\x85\x00\x00\x00\x00\x00\x00\x00\x08\x00\x00\x1c\x84\x00";
+    let two =
+        b"DRY\x00\x02\x03\x00\x00\x00\x00\x00\x00\x1c\x85\x00\x00\x00\x00\x00\x00\x00\x08\x00\x00\x00\x00\x00\x00\x1c\x84\x00";
+    receive(receive(fresh(0), one), two);
+}
+
 // Panel 2 hears A and B of the busy yard, and sends C.
 fn busy_yard() {
     let a = b"DRY\x00\x01\x00\x00\x00\x00\x64\x00\x00\x00\x00\x00\x00\x00\x00\x00";
@@ -66,14 +77,16 @@ fn busy_yard() {
 fn main() {
     print(b"cases 1 and 2\n");
     send(send(at(3, 100), b"OK", 0), b"", 0);
+    print(b"case 2's frame in version 1, and then in version 2\n");
+    both_versions();
     print(b"a beacon\n");
     beacon(at(3, 100), b"OK");
     print(b"beacons up to the last deadline, too far ahead for a fresh panel\n");
-    beacon(beacon(at(3, 4294966095), b""), b"");
+    beacon(beacon(at(3, 18446744073709550415), b""), b"");
     print(b"the busy yard: panel 2 has A and B in its log, and names B alone, which names A\n");
     busy_yard();
     print(b"case 6\n");
-    send(send(at(0, 4294967294), b"", 1), b"", 1);
+    send(send(at(0, 18446744073709551614), b"", 1), b"", 1);
     print(b"case 11\n");
     clock(clock(at(0, 50), 50), 49);
     print(b"a panel number above 63\n");

@@ -20,7 +20,7 @@ use Rattle.rules.specs.Cases.{Holds, finished, _and_, EachHolds}
 use Rattle.rules.specs.FarAheadCases.{farFrame1, farFrame2, caseFarAhead, caseFarAheadStays, caseLastDays}
 use Rattle.rules.specs.BarrierCases.{frameC, frameD, caseYard, caseYardMixed, caseRemoved, caseOwn}
 use Rattle.rules.specs.FloorCases.{caseWrongYear, caseFloor, caseFloorUnreached}
-use Rattle.rules.specs.VersionCases.{caseVersions, caseShort, casePast32}
+use Rattle.rules.specs.VersionCases.{narrow2, caseVersions, caseShort, casePast32}
 use Rattle.rules.specs.BenchCases.{frame1, case1, frame2, case2, case3, case4, case5, case6, case7, case8, queue, case9, case10, case11, caseBeacon, caseOrder, caseUnreached, benchCases}
 
 -- whoever unfolds these unfolds all definitions: of frames, of a panel's rules, of the calls, and the cases
@@ -37,7 +37,7 @@ unfolding framesOpened rulesOpened handAndSettle sendDeadline newMessage sending
 callsOpened = tt
 
 casesOpened : Unit {0}
-unfolding callsOpened frame1 frame2 farFrame1 farFrame2 queue case1 case2 case3 case4 case5 case6 case7 case8 case9 case10 case11 caseBeacon caseOrder caseUnreached caseFarAhead caseFarAheadStays caseLastDays fresh caseYard caseYardMixed caseRemoved caseOwn caseWrongYear caseFloor caseFloorUnreached caseVersions caseShort casePast32
+unfolding callsOpened frame1 frame2 farFrame1 farFrame2 queue case1 case2 case3 case4 case5 case6 case7 case8 case9 case10 case11 caseBeacon caseOrder caseUnreached caseFarAhead caseFarAheadStays caseLastDays fresh caseYard caseYardMixed caseRemoved caseOwn caseWrongYear caseFloor caseFloorUnreached narrow2 caseVersions caseShort casePast32
 casesOpened = tt
 
 -- Of every step of every case, the result that the case names is the one that documents 01 and 02 define. A declaration for each case, as the

@@ -13,9 +13,10 @@ use Rattle.numbers.specs.Numbers.{Bytes}
 use Rattle.numbers.proofs.Over.{length-over, take-over}
 use Rattle.frame.specs.Message.{Message}
 use Rattle.frame.specs.Frame.{frame}
-use Rattle.frame.specs.Reading.{message, checks, widthIn, refusalOf, readingOf}
+use Rattle.frame.specs.Reading.{versionIn, message, checks, widthIn, refusalOf, readingOf}
 use Rattle.frame.specs.Refusal.{firstOf}
 use Rattle.frame.proofs.FirstOf.{eachNumber, firstOf-each}
+use Rattle.frame.proofs.Places.{version-place}
 use Rattle.frame.proofs.Theorems.{readingOf-frame}
 use Rattle.frame.proofs.Readable.{readable-true}
 use Rattle.rules.specs.Sizes.{width}
@@ -161,6 +162,17 @@ sent-reads p payload lifetime output buffer len bytes =
     (λ e _.
     let r = new-readable p payload lifetime output buffer (send-passed p payload lifetime output buffer e) len bytes in
     ap readingOf (take-over buffer (frame width m)) ∙ readingOf-frame width m (omega arith) (readable-true width m r))
+
+-- It is of version 2.
+pub sent-version : (p : Panel) (payload : List ℕ) (lifetime : ℕ) (output buffer : List ℕ)
+    → let result = defined p (send payload lifetime output buffer) in
+    result .number ≡ 0 → versionIn (take (result .frameLength) (result .buffer)) ≡ 2
+unfolding refused done
+sent-version p payload lifetime output buffer =
+    let m = newMessage p payload lifetime in
+    defined-both (λ r. r .number ≡ 0 → versionIn (take (r .frameLength) (r .buffer)) ≡ 2) p (send payload lifetime output buffer)
+    (λ n e z. absurd (omega (arith, z)))
+    (λ e _. ap versionIn (take-over buffer (frame width m)) ∙ version-place width m (omega arith))
 
 -- A fresh panel is let through by 26, whatever number was asked for.
 pub fresh-valid : (own : ℕ) → broken (freshRecord own) ≡ false

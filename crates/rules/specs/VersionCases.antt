@@ -12,11 +12,13 @@ fresh0 = panelOf 0 0 0 none64 none64 []
 
 -- ---- the frames of cases 1 and 2, in version 1 and in version 2: either is taken, with the same values, and then the other is 22
 
+unfoldable pub narrow2 : List ℕ
+narrow2 = narrowFrom (0x03 ∷ 0x00 ∷ 0x00 ∷ 0x1c ∷ 0x85 ∷ replicate 7 0x00) (0x08 ∷ 0x00 ∷ 0x00 ∷ 0x1c ∷ 0x84 ∷ 0x00 ∷ [])
+
 unfoldable pub caseVersions : List Step
 caseVersions =
     let narrow1 = narrowFrom (0x03 ∷ 0x00 ∷ 0x00 ∷ 0x1c ∷ 0x84 ∷ zeros8) (0x02 ∷ 0x4f ∷ 0x4b ∷ []) in
     let wide1 = frameFrom (0x03 ∷ zeros4 (0x00 ∷ 0x00 ∷ 0x1c ∷ 0x84 ∷ zeros8)) (0x02 ∷ 0x4f ∷ 0x4b ∷ []) in
-    let narrow2 = narrowFrom (0x03 ∷ 0x00 ∷ 0x00 ∷ 0x1c ∷ 0x85 ∷ replicate 7 0x00) (0x08 ∷ 0x00 ∷ 0x00 ∷ 0x1c ∷ 0x84 ∷ 0x00 ∷ []) in
     let wide2 = frameFrom (0x03 ∷ zeros4 (0x00 ∷ 0x00 ∷ 0x1c ∷ 0x85 ∷ replicate 7 0x00)) (0x08 ∷ zeros4 (0x00 ∷ 0x00 ∷ 0x1c ∷ 0x84 ∷ 0x00 ∷ [])) in
     let has = panelOf 0 0 7300 (of ((3, 7300) ∷ [])) (of ((3, 7300) ∷ [])) [] in
     let waits = panelOf 0 0 0 none64 none64 (messageOf 3 7301 (of ((3, 7300) ∷ [])) [] ∷ []) in

@@ -69,7 +69,7 @@ pub fn clock(p: Panel, time: u64) -> Panel {
         answer.count,
         panel.count,
     );
-    print_item(b", time ", panel.time as u64);
+    print_item(b", time ", panel.time);
     print(b"\n");
     panel
 }
@@ -85,8 +85,8 @@ pub fn set_back(p: Panel, reading: u64) -> Panel {
         0,
         panel.count,
     );
-    print_item(b", time ", panel.time as u64);
-    print_item(b", floor ", panel.floor as u64);
+    print_item(b", time ", panel.time);
+    print_item(b", floor ", panel.floor);
     print(b"\n");
     panel
 }

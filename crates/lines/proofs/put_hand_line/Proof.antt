@@ -26,9 +26,6 @@ cast-put-start c = search needs
 put-start-requires : tie.Need-put-start-requires
 put-start-requires c κs = search needs
 
-cast-put-item : tie.Need-cast-put-item
-cast-put-item c = search needs
-
 put-item-requires : tie.Need-put-item-requires
 put-item-requires c κs = search needs
 
@@ -43,7 +40,7 @@ abbrev second : tie.After-put-payload → tie.After-put-item
 second c = c .before .before .before .before .before
 
 abbrev first : tie.After-put-payload → tie.After-put-start
-first c = second c .before .before .before .before .before
+first c = second c .before .before .before .before
 
 abbrev read : tie.After-put-payload → tie.After-panel-log-fields
 read c = first c .before .before .before .before
@@ -83,7 +80,6 @@ put-hand-line-spec =
     slice-aggregate-put-start
     cast-put-start
     put-start-requires
-    cast-put-item
     put-item-requires
     log-payload-requires
     put-payload-requires

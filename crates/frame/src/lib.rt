@@ -51,22 +51,22 @@ fn head_check(frame: &[u8], width: usize) -> u8
     ensures { λ r. ⌜ r ≡ firstOf (take 6 (checks width (now (frame .entry)))) ⌝ }
 {
     if frame.len() < 19 {
-        return 1;
+        return 1; // fewer than 19 bytes
     }
     if number_at(frame, 0, 3) != 0x445259 {
-        return 2;
+        return 2; // the mark
     }
     if number_at(frame, 3, 2) != (width / 4) as u64 {
-        return 3;
+        return 3; // the version
     }
     if frame.len() < 15 + width {
-        return 1;
+        return 1; // fewer bytes than a frame of that version has
     }
     if 63 < frame[5] {
-        return 4;
+        return 4; // the source
     }
     if entry_at(frame, DEADLINE_AT, width) == 0 {
-        return 5;
+        return 5; // deadline 0
     }
     0
 }
@@ -110,20 +110,20 @@ fn check(frame: &[u8], width: usize) -> u8
     let count = entry_count(frame, width);
     let start = 15 + width + width * count;
     if frame.len() < start {
-        return 1;
+        return 1; // too few bytes for the entries and the length byte
     }
     if !each_earlier(frame, width, count, entry_at(frame, DEADLINE_AT, width)) {
-        return 6;
+        return 6; // the entries
     }
     let length = frame[start - 1] as usize;
     if 32 < length {
-        return 7;
+        return 7; // the payload's length
     }
     if frame.len() < start + length {
-        return 1;
+        return 1; // too few bytes for the payload
     }
     if start + length < frame.len() {
-        return 8;
+        return 8; // bytes left over
     }
     0
 }
@@ -145,7 +145,7 @@ pub extern "C" fn frame_check(frame: &[u8]) -> u8
     ensures { λ r. ⌜ r ≡ refusalOf (now (frame .entry)) ⌝ }
 {
     if frame.len() < 19 {
-        return 1;
+        return 1; // fewer than 19 bytes, and perhaps no version among them
     }
     check(frame, width_in(frame))
 }

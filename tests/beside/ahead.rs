@@ -6,7 +6,7 @@ use crate::bundles::{bundle_of, printed};
 use crate::calls::Call;
 use crate::cases::{hands, is, refuses};
 use crate::compare::Both;
-use crate::compose::frame;
+use crate::compose::{frame, BORDER};
 use crate::kept::Kept;
 use crate::second::{listing, FRAME, OUTPUT};
 use crate::side::Found;
@@ -15,9 +15,9 @@ use crate::traces::{answers, panel, Entries, Expected};
 use std::path::Path;
 
 /// The seconds of 14 days.
-pub const DAYS: u32 = 1_209_600;
+pub const DAYS: u64 = 1_209_600;
 /// A deadline that is far ahead at time 1000.
-pub const FAR: u32 = 5_000_000;
+pub const FAR: u64 = 5_000_000;
 
 /// All cases. Those of the text need the program `list`.
 pub fn run(both: &mut Both, program: &Path) -> Result<(), Found> {
@@ -42,7 +42,7 @@ pub fn with(frames: &[Vec<u8>]) -> Kept {
 }
 
 /// Frames of source 1 without entries, each at a panel 0 of its own.
-fn each(both: &mut Both, cases: &[(u32, u32, u8)]) -> Result<(), Found> {
+fn each(both: &mut Both, cases: &[(u64, u64, u8)]) -> Result<(), Found> {
     cases.iter().try_for_each(|(time, deadline, number)| {
         let bytes = frame(1, *deadline, &[], b"");
         answers(both, &Kept::at(0, *time), &bytes, (*number, true, 0))
@@ -56,9 +56,9 @@ fn farthest(both: &mut Both) -> Result<(), Found> {
     refuses(both, &mut fresh, far, 32)?;
     let near = Call::receive(&frame(1, 1_209_600, &[], b""));
     hands(both, &mut fresh, near, &[(1, 1_209_600, b"")])?;
-    for time in [0, 1, 1000, DAYS, 1 << 31, 4_000_000_000] {
+    for time in [0, 1, 1000, DAYS, 1 << 31, BORDER - DAYS, BORDER, 1 << 63] {
         let sum = time + DAYS;
-        let far = [sum + 1, sum + 2, sum + DAYS, u32::MAX];
+        let far = [sum + 1, sum + 2, sum + DAYS, time + (1 << 32), u64::MAX];
         each(both, &far.map(|deadline| (time, deadline, 32)))?;
         let near = [time.max(1), sum - 1, sum];
         each(both, &near.map(|deadline| (time, deadline, 0)))?;
@@ -69,16 +69,16 @@ fn farthest(both: &mut Both) -> Result<(), Found> {
 /// Within 14 days of the last deadline nothing is far ahead.
 fn last_deadlines(both: &mut Both) -> Result<(), Found> {
     let cases = [
-        (4_293_757_694, 4_294_967_295, 32),
-        (4_293_757_694, 4_294_967_294, 0),
-        (4_293_757_695, 4_294_967_295, 0),
-        (4_293_757_696, 4_294_967_295, 0),
-        (4_293_757_696, 4_294_967_294, 0),
-        (4_293_757_696, 4_293_757_695, 21),
-        (4_294_967_294, 4_294_967_295, 0),
-        (4_294_967_295, 4_294_967_295, 0),
-        (4_294_967_295, 4_294_967_294, 21),
-        (4_294_967_295, 1, 21),
+        (18_446_744_073_708_342_014, 18_446_744_073_709_551_615, 32),
+        (18_446_744_073_708_342_014, 18_446_744_073_709_551_614, 0),
+        (18_446_744_073_708_342_015, 18_446_744_073_709_551_615, 0),
+        (18_446_744_073_708_342_016, 18_446_744_073_709_551_615, 0),
+        (18_446_744_073_708_342_016, 18_446_744_073_709_551_614, 0),
+        (18_446_744_073_708_342_016, 18_446_744_073_708_342_015, 21),
+        (18_446_744_073_709_551_614, 18_446_744_073_709_551_615, 0),
+        (18_446_744_073_709_551_615, 18_446_744_073_709_551_615, 0),
+        (18_446_744_073_709_551_615, 18_446_744_073_709_551_614, 21),
+        (18_446_744_073_709_551_615, 1, 21),
     ];
     each(both, &cases)
 }
@@ -101,7 +101,7 @@ fn taken_later(both: &mut Both) -> Result<(), Found> {
 /// the entries are.
 fn visits(both: &mut Both) -> Result<(), Found> {
     let kept = panel(1000, &[(3, 1060), (7, 1070)]);
-    let cases: &[(u32, Entries, Expected)] = &[
+    let cases: &[(u64, Entries, Expected)] = &[
         (1001 + DAYS, &[], (32, true, 0)),
         (1001 + DAYS, &[(3, 1060), (4, 999)], (32, true, 2)),
         (1001 + DAYS, &[(3, 1060), (4, 1000)], (32, false, 2)),
@@ -155,10 +155,10 @@ fn refusals_before_the_state(both: &mut Both) -> Result<(), Found> {
     let frames = [
         (1, far[..far.len() - 1].to_vec()),
         (2, changed(0, 0x45)),
-        (3, changed(4, 2)),
+        (3, changed(4, 3)),
         (4, changed(5, 64)),
-        (6, changed(18, 0xff)),
-        (7, changed(22, 33)),
+        (6, changed(22, 0xff)),
+        (7, changed(30, 33)),
         (8, [&far[..], b"!"].concat()),
     ];
     frames
@@ -173,7 +173,7 @@ fn full(both: &mut Both) -> Result<(), Found> {
         .collect();
     let kept = with(&frames);
     let not_ready: Entries = &[(4, 2000)];
-    let cases: &[(u32, Entries, Expected)] = &[
+    let cases: &[(u64, Entries, Expected)] = &[
         (1001 + DAYS, not_ready, (32, false, 1)),
         (1001 + DAYS, &[], (32, true, 0)),
         (1000 + DAYS, not_ready, (23, false, 1)),

@@ -13,6 +13,7 @@ use crate::rows::Rows;
 use crate::script::{Script, Start};
 use crate::second::Make;
 use crate::side::{Found, Side};
+use std::collections::BTreeSet;
 
 /// Declares the counts, each with its words.
 macro_rules! counted {
@@ -50,6 +51,7 @@ counted! {
     set_back: "pairs at panels whose time a set back had lowered",
     copies: "pairs with a copy",
     unequal_copies: "pairs with more copies in one order than in the other",
+    both_versions: "pairs with a message that comes in both versions",
     another_order: "pairs whose logs stand in another order",
     waiting: "pairs that end with messages waiting",
     floor: "pairs that end with a floor above 0",
@@ -61,7 +63,7 @@ counted! {
 
 impl Arrivals {
     /// Counts a pair from a record with this floor.
-    fn pair(&mut self, floor: u32, orders: &Orders, ends: &Ends) {
+    fn pair(&mut self, floor: u64, orders: &Orders, ends: &Ends) {
         let [one, other] = &ends.0;
         self.pairs += 1;
         for number in one.numbers.iter().chain(&other.numbers) {
@@ -78,6 +80,7 @@ impl Arrivals {
         let [copies, other_copies] = orders.each_ref().map(|order| copies(order));
         self.copies += u64::from(copies + other_copies > 0);
         self.unequal_copies += u64::from(copies != other_copies);
+        self.both_versions += u64::from(both_versions(orders));
         self.full += u64::from(ends.full());
         self.full_apart += u64::from(ends.full() && ends.alike().is_err());
         if !ends.full() {
@@ -89,12 +92,18 @@ impl Arrivals {
     }
 }
 
-/// How many calls of an order have the frame of another.
+/// How many calls of an order have the message of another.
 fn copies(order: &[Call]) -> usize {
-    let mut frames: Vec<&[u8]> = order.iter().map(Call::input).collect();
-    frames.sort_unstable();
-    frames.dedup();
-    order.len() - frames.len()
+    let frames = order.iter().map(Call::input);
+    let names: BTreeSet<_> = frames.map(compose::name_of).collect();
+    order.len() - names.len()
+}
+
+/// Whether a message comes in both versions.
+fn both_versions(orders: &Orders) -> bool {
+    let frames: BTreeSet<&[u8]> = orders.iter().flatten().map(Call::input).collect();
+    let names: BTreeSet<_> = frames.iter().map(|frame| compose::name_of(frame)).collect();
+    names.len() < frames.len()
 }
 
 impl<S: Side> Farm<'_, S> {
@@ -165,9 +174,9 @@ impl<S: Side> Farm<'_, S> {
     /// no entries.
     fn with_a_forged_frame(&mut self, place: usize, mut orders: Orders) -> Result<(), Found> {
         let real = orders[0][self.random.below(orders[0].len())].input();
-        let later = self.random.between(1, 3) as u32;
-        let deadline = compose::deadline_of(real).saturating_add(later);
-        let forged = compose::frame(real[5], deadline, &[], b"forged");
+        let later = self.random.between(1, 3) as u64;
+        let (source, deadline) = compose::name_of(real);
+        let forged = compose::frame(source, deadline.saturating_add(later), &[], b"forged");
         if self.frames.contains(&forged) {
             return Ok(());
         }

@@ -35,7 +35,7 @@ struct Left<'case> {
 
 /// A panel at this time in whose log the newest messages of some panels are these, none of them
 /// before its last send.
-fn logged(own: u8, time: u32, entries: Entries) -> Kept {
+fn logged(own: u8, time: u64, entries: Entries) -> Kept {
     Kept {
         high: highest(entries),
         marks: numbers(entries),
@@ -122,7 +122,7 @@ fn sends(
         accepted(mixed, &mut panel, &Call::receive(frame))?;
     }
     let sent = accepted(mixed, &mut panel, &Call::send(b"", lifetime))?;
-    let expected = frame(number, u32::from(lifetime), entries, b"");
+    let expected = frame(number, u64::from(lifetime), entries, b"");
     match sent == expected && sent.len() == length {
         true => Ok(sent),
         false => {
@@ -136,9 +136,9 @@ fn sends(
 /// makes of the last two make a difference.
 fn busy_yard(mixed: &mut Mixed) -> Result<(), Found> {
     let (short_c, long_c): (Sent, Sent) =
-        ((300, &[(1, 200)], 23), (300, &[(0, 100), (1, 200)], 27));
-    let short_d: Sent = (400, &[(2, 300)], 23);
-    let long_d: Sent = (400, &[(0, 100), (1, 200), (2, 300)], 31);
+        ((300, &[(1, 200)], 31), (300, &[(0, 100), (1, 200)], 39));
+    let short_d: Sent = (400, &[(2, 300)], 31);
+    let long_d: Sent = (400, &[(0, 100), (1, 200), (2, 300)], 47);
     let yards = [
         (Make::New, short_c, Make::New, short_d),
         (Make::New, short_c, Make::Old, long_d),
@@ -147,13 +147,14 @@ fn busy_yard(mixed: &mut Mixed) -> Result<(), Found> {
     ];
     for (two, c, three, d) in yards {
         for first in [Make::New, Make::Old] {
-            let a = sends(mixed, (0, first), &[], (100, &[], 19))?;
-            let b = sends(mixed, (1, first), &[&a], (200, &[(0, 100)], 23))?;
+            let a = sends(mixed, (0, first), &[], (100, &[], 23))?;
+            let b = sends(mixed, (1, first), &[&a], (200, &[(0, 100)], 31))?;
             let c = sends(mixed, (2, two), &[&a, &b], c)?;
             sends(mixed, (3, three), &[&a, &b, &c], d)?;
         }
     }
-    let bytes = b"\x44\x52\x59\x00\x01\x03\0\0\x01\x90\0\0\0\0\0\0\0\x04\0\0\x01\x2c\0";
+    let bytes = b"\x44\x52\x59\0\x02\x03\0\0\0\0\0\0\x01\x90\0\0\0\0\0\0\0\x04\
+        \0\0\0\0\0\0\x01\x2c\0";
     match frame(3, 400, short_d.1, b"") == bytes {
         true => Ok(()),
         false => Err(wrong("frame D has other bytes".to_string())),
@@ -200,20 +201,23 @@ fn borders(mixed: &mut Mixed) -> Result<(), Found> {
     leaves(mixed, &kept, &[call], &left)
 }
 
-/// Entries below and above 2 to the power 31, all of which have lapsed: none of them has a sign.
+/// Entries below and above 2 to the power 31, 32 and 63, all of which have lapsed: none of them has
+/// a sign, and all their bits are compared.
 fn about_the_half(mixed: &mut Mixed) -> Result<(), Found> {
-    const HALF: u32 = 1 << 31;
-    let entries = [-9, 9, 7, -7, 8].map(|more| HALF.wrapping_add_signed(more));
-    let carried = [5, -5, 7, -7, 7].map(|more| HALF.wrapping_add_signed(more));
-    let numbered = |entries: [u32; 5]| (4..).zip(entries).collect::<Vec<(u8, u32)>>();
-    let (entries, carried) = (numbered(entries), numbered(carried));
-    let own = (1, HALF + 100);
-    let left = Left {
-        new: &[own, entries[1], entries[4]],
-        old: &[&[own], &entries[..]].concat(),
-    };
-    let call = Call::receive(&frame(own.0, own.1, &carried, b""));
-    leaves(mixed, &logged(3, HALF + 50, &entries), &[call], &left)
+    for half in [1 << 31, 1 << 32, 1u64 << 63] {
+        let entries = [-9, 9, 7, -7, 8].map(|more| half.wrapping_add_signed(more));
+        let carried = [5, -5, 7, -7, 7].map(|more| half.wrapping_add_signed(more));
+        let numbered = |entries: [u64; 5]| (4..).zip(entries).collect::<Vec<(u8, u64)>>();
+        let (entries, carried) = (numbered(entries), numbered(carried));
+        let own = (1, half + 100);
+        let left = Left {
+            new: &[own, entries[1], entries[4]],
+            old: &[&[own], &entries[..]].concat(),
+        };
+        let call = Call::receive(&frame(own.0, own.1, &carried, b""));
+        leaves(mixed, &logged(3, half + 50, &entries), &[call], &left)?;
+    }
+    Ok(())
 }
 
 /// The entry of the message's own panel, removed or not, is the message's in the end.
@@ -231,7 +235,7 @@ fn own_panel(mixed: &mut Mixed) -> Result<(), Found> {
 
 /// Entries of panels 0 and 63, and of all 64.
 fn ends_of_the_mask(mixed: &mut Mixed) -> Result<(), Found> {
-    let all: Vec<(u8, u32)> = (0..64).map(|panel| (panel, 60)).collect();
+    let all: Vec<(u8, u64)> = (0..64).map(|panel| (panel, 60)).collect();
     let mut then = all.clone();
     then[7].1 = 90;
     let cases: [(Entries, Entries); 2] = [

@@ -35,7 +35,7 @@ pub fn run(both: &mut Both) -> Result<(), Found> {
 }
 
 /// Panel 3 at this time.
-fn three_at(both: &mut Both, time: u32) -> Result<Pair, Found> {
+fn three_at(both: &mut Both, time: u64) -> Result<Pair, Found> {
     let mut three = both.fresh(3)?;
     hands(both, &mut three, Call::clock(time), &[])?;
     Ok(three)
@@ -46,7 +46,7 @@ fn lifetimes(both: &mut Both) -> Result<(), Found> {
     for lifetime in [0, 1, 1199, 1200, 1201, 7199, 7200, 7201, u16::MAX] {
         let seconds = match lifetime {
             0 => 7200,
-            _ => u32::from(lifetime),
+            _ => u64::from(lifetime),
         };
         let mut three = three_at(both, 100)?;
         let log: Log = &[(3, 100 + seconds, b"")];
@@ -59,7 +59,7 @@ fn lifetimes(both: &mut Both) -> Result<(), Found> {
 fn first_beacon(both: &mut Both) -> Result<(), Found> {
     let mut three = three_at(both, 100)?;
     let sent = hands(both, &mut three, Call::beacon(b"OK"), &[(3, 1300, b"OK")])?;
-    let bytes = b"\x44\x52\x59\x00\x01\x03\x00\x00\x05\x14\0\0\0\0\0\0\0\0\x02\x4f\x4b";
+    let bytes = b"\x44\x52\x59\0\x02\x03\0\0\0\0\0\0\x05\x14\0\0\0\0\0\0\0\0\x02\x4f\x4b";
     is("the frame of a beacon", sent == bytes)?;
     let mut zero = both.fresh(0)?;
     hands(both, &mut zero, Call::receive(&sent), &[(3, 1300, b"OK")]).map(|_| ())
@@ -98,17 +98,17 @@ fn beacon_hands(both: &mut Both) -> Result<(), Found> {
 
 /// The last second in which a beacon can be sent.
 fn last_beacon(both: &mut Both) -> Result<(), Found> {
-    let mut three = three_at(both, u32::MAX - 1200)?;
+    let mut three = three_at(both, u64::MAX - 1200)?;
     refuses(both, &mut three, Call::send(b"", 0), 24)?;
-    hands(both, &mut three, Call::beacon(b""), &[(3, u32::MAX, b"")])?;
+    hands(both, &mut three, Call::beacon(b""), &[(3, u64::MAX, b"")])?;
     refuses(both, &mut three, Call::beacon(b""), 24)?;
-    let mut three = three_at(both, u32::MAX - 1199)?;
+    let mut three = three_at(both, u64::MAX - 1199)?;
     refuses(both, &mut three, Call::beacon(b""), 24)
 }
 
 /// The refusals of a beacon, in their order.
 fn refused_beacons(both: &mut Both) -> Result<(), Found> {
-    let mut three = three_at(both, u32::MAX)?;
+    let mut three = three_at(both, u64::MAX)?;
     let long = || Call::beacon(&[7; 33]);
     refuses(both, &mut three, long(), 9)?;
     refuses(both, &mut three, long().lent(OUTPUT - 1, FRAME), 10)?;

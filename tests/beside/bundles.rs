@@ -6,8 +6,8 @@ use crate::hexadecimal;
 use crate::module;
 use crate::random::Random;
 use crate::second::bundle::{step, Kind};
-use crate::second::log::fields;
-use crate::second::{listing, FARTHEST_AHEAD};
+use crate::second::log::{fields, LENGTH_AT};
+use crate::second::{listing, FARTHEST_AHEAD, LOG_RECORD};
 use crate::side::Found;
 use std::io::Write;
 use std::path::Path;
@@ -23,10 +23,10 @@ pub fn readers(both: &mut Both, seed: u64, rounds: u64) -> Result<(), Found> {
         for place in (0..bundle.len() + 4).chain(past) {
             same_step(both, &bundle, place)?;
         }
-        let log = log(37 - round as usize % 38, &mut random);
-        let wrapped = usize::MAX / 38;
+        let log = log(LOG_RECORD - 1 - round as usize % LOG_RECORD, &mut random);
+        let wrapped = usize::MAX / LOG_RECORD;
         let past = [1 << 32, wrapped, wrapped + 1, 1 << 63, usize::MAX];
-        for index in (0..log.len() / 38 + 3).chain(past) {
+        for index in (0..log.len() / LOG_RECORD + 3).chain(past) {
             same_fields(both, &log, index)?;
         }
     }
@@ -66,15 +66,14 @@ fn short_bundle(random: &mut Random) -> Vec<u8> {
 fn log(more: usize, random: &mut Random) -> Vec<u8> {
     let mut log = Vec::new();
     for _ in 0..random.below(6) {
-        let mut record = random.bytes(38);
-        record[5] = random.pick(&[0, 1, 31, 32, 33, 255]);
-        if random.chance(30) {
-            record[1..5].fill(0);
-        }
+        let mut record = random.bytes(LOG_RECORD);
+        record[LENGTH_AT] = random.pick(&[0, 1, 31, 32, 33, 255]);
+        let (zeros, end) = random.pick(&[(1, LENGTH_AT), (1, 5), (5, LENGTH_AT), (1, 1)]);
+        record[zeros..end].fill(0);
         log.extend(record);
     }
     let mut cut_off = random.bytes(more);
-    if let Some(length) = cut_off.get_mut(5) {
+    if let Some(length) = cut_off.get_mut(LENGTH_AT) {
         *length %= 33;
     }
     log.extend(cut_off);
@@ -151,10 +150,11 @@ pub fn bundle_of(frames: &[Vec<u8>]) -> Vec<u8> {
 fn listed_bundle(random: &mut Random) -> Vec<u8> {
     let sources = random.pick(&[2, 6, 64]);
     let least = random.pick(&[0, 0, FARTHEST_AHEAD - 15]);
-    let numbers: Vec<u32> = (0..8).map(|_| least + random.below(30) as u32).collect();
+    let numbers: Vec<u64> = (0..8).map(|_| least + random.below(30) as u64).collect();
     let mut frames: Vec<Vec<u8>> = Vec::new();
     for place in 0..random.below(90) {
         let frame = compose::readable(random.below(sources) as u8, &numbers, random);
+        let frame = compose::in_any_version(frame, random);
         frames.push(match random.below(20) {
             0 => compose::damaged(&frame, random.between(1, 8) as u8, random),
             1 if place > 0 => frames[random.below(place)].clone(),
@@ -174,6 +174,7 @@ fn sized_bundle(length: usize, random: &mut Random) -> Vec<u8> {
     let mut bundle = Vec::new();
     while bundle.len() < length {
         let frame = compose::readable(random.between(1, 5) as u8, &[7, 3, 1 << 30], random);
+        let frame = compose::in_any_version(frame, random);
         bundle.extend(bundle_of(&[frame]));
     }
     bundle.truncate(length);

@@ -28,11 +28,11 @@ pub enum Call {
         bytes: Vec<u8>,
     },
     Clock {
-        reading: u32,
+        reading: u64,
         output: usize,
     },
     SetBack {
-        reading: u32,
+        reading: u64,
     },
 }
 
@@ -72,7 +72,7 @@ impl Call {
     }
 
     /// A clock call whose output is exactly long enough.
-    pub fn clock(reading: u32) -> Call {
+    pub fn clock(reading: u64) -> Call {
         Call::Clock {
             reading,
             output: OUTPUT,
@@ -80,7 +80,7 @@ impl Call {
     }
 
     /// A set back.
-    pub fn set_back(reading: u32) -> Call {
+    pub fn set_back(reading: u64) -> Call {
         Call::SetBack { reading }
     }
 

@@ -4,14 +4,14 @@ use crate::beacons;
 use crate::bundles::printed;
 use crate::calls::Call;
 use crate::compare::{Both, Pair};
-use crate::compose::{deadline_of, frame, numbers};
-use crate::second::{listing, LOG_RECORD, OUTPUT};
+use crate::compose::{deadline_of, frame, logged, numbers, versions};
+use crate::second::{listing, FRAME, LOG_RECORD, OUTPUT};
 use crate::side::Found;
 use crate::traces;
 use std::path::Path;
 
 /// Messages of a log: source, deadline and payload.
-pub type Log<'log> = &'log [(u8, u32, &'log [u8])];
+pub type Log<'log> = &'log [(u8, u64, &'log [u8])];
 
 /// All cases. Those of the text need the program `list`.
 pub fn run(both: &mut Both, program: &Path) -> Result<(), Found> {
@@ -35,28 +35,14 @@ pub fn run(both: &mut Both, program: &Path) -> Result<(), Found> {
     texts_of_3_and_12(program)
 }
 
-fn records(both: &Both, count: usize) -> Vec<(u8, u32, Vec<u8>)> {
-    let records = both.output().chunks_exact(LOG_RECORD).take(count);
-    records
-        .map(|record| {
-            let deadline = u32::from_be_bytes([record[1], record[2], record[3], record[4]]);
-            let payload = record[6..6 + usize::from(record[5]).min(32)].to_vec();
-            (record[0], deadline, payload)
-        })
-        .collect()
-}
-
 /// A call that is accepted and hands these messages; the frame of a send or beacon.
 pub fn hands(both: &mut Both, pair: &mut Pair, call: Call, log: Log) -> Result<Vec<u8>, Found> {
     let answer = beacons::call(both, pair, &call)?;
-    let given = records(both, answer.count);
-    let expected: Vec<_> = log
-        .iter()
-        .map(|(source, deadline, payload)| (*source, *deadline, payload.to_vec()))
-        .collect();
-    if answer.number != 0 || given != expected {
+    let records = both.output().chunks_exact(LOG_RECORD).take(answer.count);
+    let given: Vec<_> = records.map(logged).collect();
+    if answer.number != 0 || given != log {
         let what = format!(
-            "bench case: {} with {given:?}, expected 0 with {expected:?}",
+            "bench case: {} with {given:?}, expected 0 with {log:?}",
             answer.number
         );
         return Err(Found::new(what).with(both.script(pair)));
@@ -85,8 +71,9 @@ pub fn is(name: &str, holds: bool) -> Result<(), Found> {
 
 /// The bytes of the frames of cases 1 and 2.
 fn first_frames() -> [Vec<u8>; 2] {
-    let one = b"\x44\x52\x59\x00\x01\x03\x00\x00\x1c\x84\0\0\0\0\0\0\0\0\x02\x4f\x4b";
-    let two = b"\x44\x52\x59\x00\x01\x03\x00\x00\x1c\x85\0\0\0\0\0\0\0\x08\x00\x00\x1c\x84\x00";
+    let one = b"\x44\x52\x59\0\x02\x03\0\0\0\0\0\0\x1c\x84\0\0\0\0\0\0\0\0\x02\x4f\x4b";
+    let two = b"\x44\x52\x59\0\x02\x03\0\0\0\0\0\0\x1c\x85\0\0\0\0\0\0\0\x08\
+        \0\0\0\0\0\0\x1c\x84\0";
     [one.to_vec(), two.to_vec()]
 }
 
@@ -95,7 +82,7 @@ fn cases_1_to_3(both: &mut Both) -> Result<(), Found> {
     hands(both, &mut three, Call::clock(100), &[])?;
     let one = hands(both, &mut three, Call::send(b"OK", 0), &[(3, 7300, b"OK")])?;
     let two = hands(both, &mut three, Call::send(b"", 0), &[(3, 7301, b"")])?;
-    let lengths = (one.len(), two.len()) == (21, 23);
+    let lengths = (one.len(), two.len()) == (25, 31);
     let mut zero = both.fresh(0)?;
     hands(both, &mut zero, Call::receive(&two), &[])?;
     let log: Log = &[(3, 7300, b"OK"), (3, 7301, b"")];
@@ -108,7 +95,7 @@ fn cases_1_to_3(both: &mut Both) -> Result<(), Found> {
 
 fn texts_of_3_and_12(program: &Path) -> Result<(), Found> {
     let [one, two] = first_frames();
-    let bundle = [&[0, 23], &two[..], &[0, 21], &one[..]].concat();
+    let bundle = [&[0, 31], &two[..], &[0, 25], &one[..]].concat();
     let three = "frame 1 taken\nframe 2 taken\nhand 3 7300 4f4b\nhand 3 7301 -\nend\n";
     for (input, text) in [(&bundle[..], three), (b"", "end\n"), (b"\0", "broken\n")] {
         is(
@@ -142,10 +129,11 @@ fn case_5(both: &mut Both) -> Result<(), Found> {
 }
 
 fn case_6(both: &mut Both) -> Result<(), Found> {
+    const LAST: u64 = 18_446_744_073_709_551_615;
     let mut panel = both.fresh(0)?;
-    hands(both, &mut panel, Call::clock(u32::MAX - 1), &[])?;
-    let sent = hands(both, &mut panel, Call::send(b"", 1), &[(0, u32::MAX, b"")])?;
-    is("the last deadline", deadline_of(&sent) == u32::MAX)?;
+    hands(both, &mut panel, Call::clock(LAST - 1), &[])?;
+    let sent = hands(both, &mut panel, Call::send(b"", 1), &[(0, LAST, b"")])?;
+    is("the last deadline", deadline_of(&sent) == LAST)?;
     refuses(both, &mut panel, Call::send(b"", 1), 24)
 }
 
@@ -189,7 +177,7 @@ fn case_9(both: &mut Both) -> Result<(), Found> {
     refuses(both, &mut panel, not_ready, 23)?;
     let ready = Call::receive(&frame(2, 300, &[], b""));
     hands(both, &mut panel, ready, &[(2, 300, b"")])?;
-    let mut log: Vec<(u8, u32, &[u8])> = vec![(1, 50, b"")];
+    let mut log: Vec<(u8, u64, &[u8])> = vec![(1, 50, b"")];
     log.extend((100..132).map(|deadline| (5, deadline, &b""[..])));
     hands(
         both,
@@ -219,17 +207,17 @@ fn case_11(both: &mut Both) -> Result<(), Found> {
     refuses(both, &mut panel, Call::clock(59), 25)
 }
 
-/// The sizes that document 01 gives: frames of 19 to 307 bytes, received and sent, and 33 log
-/// records of 38 bytes in an output of 1,254.
+/// The sizes that documents 01 and 02 give: frames of 23 to 567 bytes, of version 1 of 19 to 307,
+/// received and sent, and 33 log records of 42 bytes in an output of 1,386.
 fn sizes(both: &mut Both) -> Result<(), Found> {
-    let entries: Vec<(u8, u32)> = (0..64).map(|panel| (panel, 1)).collect();
-    let (least, most) = (frame(1, 1, &[], b""), frame(1, 2, &entries, &[9; 32]));
-    is(
-        "frames have 19 to 307 bytes",
-        (least.len(), most.len()) == (19, 307),
-    )?;
-    is("33 log records have 1,254 bytes", 33 * LOG_RECORD == OUTPUT)?;
-    for bytes in [least, most] {
+    let entries: Vec<(u8, u64)> = (0..64).map(|panel| (panel, 1)).collect();
+    let frames = [frame(1, 1, &[], b""), frame(1, 2, &entries, &[9; 32])];
+    let frames = frames.map(|frame| versions(&frame)).concat();
+    let lengths: Vec<_> = frames.iter().map(Vec::len).collect();
+    is("the lengths of frames", lengths == [19, 23, 307, 567])?;
+    is("33 log records fill an output", 33 * LOG_RECORD == OUTPUT)?;
+    is("567 and 1,386 bytes", (FRAME, OUTPUT) == (567, 1386))?;
+    for bytes in frames {
         let mut panel = both.fresh(63)?;
         both.call(&mut panel, &Call::receive(&bytes))?;
         refuses(both, &mut panel, Call::receive(&bytes), 22)?;
@@ -252,6 +240,6 @@ fn sizes(both: &mut Both) -> Result<(), Found> {
     )?;
     is(
         "frames of 63 and of 64 entries",
-        (short.len(), long.len()) == (271, 307),
+        (short.len(), long.len()) == (527, 567),
     )
 }

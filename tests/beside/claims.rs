@@ -3,6 +3,7 @@
 
 use crate::bits::Bits;
 use crate::calls::Call;
+use crate::compose;
 use crate::second::{Answer, LOG_RECORD};
 use crate::words::{At, Floors, Message};
 use std::collections::HashMap;
@@ -24,8 +25,8 @@ impl Spoken {
 pub struct Claims {
     /// The messages, numbered in the order in which they came up.
     messages: Vec<Message>,
-    known: HashMap<(u8, u32), usize>,
-    /// The messages of the frames that were sent, by their bytes.
+    known: HashMap<(u8, u64), usize>,
+    /// The messages of the frames that were sent, by their bytes in both versions.
     frames: HashMap<Vec<u8>, usize>,
     panels: Vec<At>,
     /// A frame was taken that nobody had sent: demand 3 says nothing of this list.
@@ -44,7 +45,7 @@ impl Claims {
     }
 
     /// The number of the message with this source and deadline.
-    fn message(&mut self, source: u8, deadline: u32) -> usize {
+    fn message(&mut self, source: u8, deadline: u64) -> usize {
         let next = self.messages.len();
         let number = *self.known.entry((source, deadline)).or_insert(next);
         if number == next {
@@ -69,7 +70,7 @@ impl Claims {
         let at = &mut self.panels[panel];
         let floor = at.floor;
         match (call, answer.number) {
-            (Call::Receive { bytes, .. }, 21) => return at.refused(name_of(bytes)),
+            (Call::Receive { bytes, .. }, 21) => return at.refused(compose::name_of(bytes)),
             (_, 1..) => return,
             (Call::Send { .. } | Call::Beacon { .. }, 0) => {
                 self.sent(panel, &frame[..answer.length.min(frame.len())])
@@ -83,7 +84,8 @@ impl Claims {
             (Call::Trace { .. }, 0) => {}
         }
         for record in output.chunks_exact(LOG_RECORD).take(answer.count) {
-            let message = self.message(record[0], number_of(&record[1..5]));
+            let (source, deadline) = compose::name_logged(record);
+            let message = self.message(source, deadline);
             self.panels[panel].hand(message, &self.messages[message]);
         }
         let at = &mut self.panels[panel];
@@ -97,15 +99,18 @@ impl Claims {
     /// A message was sent: before it in cause are those of the sender's log just before the call,
     /// and all before them.
     fn sent(&mut self, panel: usize, frame: &[u8]) {
-        let message = self.message(frame[5], number_of(&frame[6..10]));
+        let (source, deadline) = compose::name_of(frame);
+        let message = self.message(source, deadline);
         self.messages[message].before.join(&self.panels[panel].past);
-        self.messages[message].entries = entries_of(frame);
+        self.messages[message].entries = compose::entries_of(frame);
         self.panels[panel].sent.insert(message);
-        self.frames.insert(frame.to_vec(), message);
+        for bytes in compose::versions(frame) {
+            self.frames.insert(bytes, message);
+        }
     }
 
     /// Whether a message of this source and deadline stands in the log of a panel.
-    pub fn stands(&self, panel: usize, source: u8, deadline: u32) -> bool {
+    pub fn stands(&self, panel: usize, source: u8, deadline: u64) -> bool {
         let known = self.known.get(&(source, deadline));
         known.is_some_and(|message| self.panels[panel].logged.has(*message))
     }
@@ -116,7 +121,7 @@ impl Claims {
     }
 
     /// The floor of a panel.
-    pub fn floor(&self, panel: usize) -> u32 {
+    pub fn floor(&self, panel: usize) -> u64 {
         self.panels[panel].floor
     }
 
@@ -205,27 +210,4 @@ impl Claims {
         let message = &self.messages[number];
         format!("message {} of panel {}", message.deadline, message.source)
     }
-}
-
-/// The source and the deadline in a frame, if it is long enough to have them.
-fn name_of(frame: &[u8]) -> Option<(u8, u32)> {
-    let (source, deadline) = (frame.get(5)?, frame.get(6..10)?);
-    Some((*source, number_of(deadline)))
-}
-
-/// The entries of a frame: the panels of its mask, lowest first, each with its entry.
-fn entries_of(frame: &[u8]) -> Vec<(u8, u32)> {
-    let (high, low) = (number_of(&frame[10..14]), number_of(&frame[14..18]));
-    let mask = u64::from(high) << 32 | u64::from(low);
-    let panels = (0..64).filter(|panel| mask >> panel & 1 == 1);
-    panels
-        .zip(frame[18..].chunks_exact(4).map(number_of))
-        .collect()
-}
-
-/// A number of four bytes, the highest first.
-fn number_of(bytes: &[u8]) -> u32 {
-    bytes
-        .iter()
-        .fold(0, |number, byte| number << 8 | u32::from(*byte))
 }

@@ -149,7 +149,7 @@ impl Both {
     /// of random bytes.
     pub fn fresh(&mut self, number: u8) -> Result<Pair, Found> {
         let mut module = Record::random(&mut self.random);
-        self.before.clone_from(&module);
+        self.before.copy_from(&module);
         let by_module = module.fresh(number);
         let (second, by_second) = second::fresh(number, Make::New);
         self.counts.fresh(by_module);
@@ -174,7 +174,7 @@ impl Both {
     /// and `frame`.
     pub fn call(&mut self, pair: &mut Pair, call: &Call) -> Result<Answer, Found> {
         pair.script.calls.push(call.clone());
-        self.before.clone_from(&pair.module);
+        self.before.copy_from(&pair.module);
         self.room.lend(call, &mut self.random);
         self.second_room.lend_as(&self.room);
         match call {

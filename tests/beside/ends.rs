@@ -1,12 +1,17 @@
 //! What an order of calls on one panel ends with, and in what two orders differ.
 
 use crate::calls::Call;
+use crate::compose;
 use crate::hexadecimal;
 use crate::kept::Kept;
+use crate::second::log::LENGTH_AT;
 use crate::second::LOG_RECORD;
 use crate::side::{Found, Side};
 use std::collections::BTreeSet;
 
+/// Bytes of source and deadline, which stand next to each other in a log record, and in the frame of
+/// a waiting message.
+const NAME: usize = LENGTH_AT;
 /// What a receive of a frame that was sent answers, if the output is long enough.
 const NUMBERS: [u8; 6] = [0, 20, 21, 22, 23, 32];
 
@@ -18,14 +23,14 @@ pub struct End {
     pub numbers: Vec<u8>,
 }
 
-fn same(name: &str, one: u32, other: u32) -> Result<(), String> {
+fn same(name: &str, one: u64, other: u64) -> Result<(), String> {
     match one == other {
         true => Ok(()),
         false => Err(format!("{name}: {one} and {other}")),
     }
 }
 
-fn same_entries(name: &str, one: &[u32; 64], other: &[u32; 64]) -> Result<(), String> {
+fn same_entries(name: &str, one: &[u64; 64], other: &[u64; 64]) -> Result<(), String> {
     match (0..64).find(|panel| one[*panel] != other[*panel]) {
         None => Ok(()),
         Some(panel) => same(&format!("{name} {panel}"), one[panel], other[panel]),
@@ -46,7 +51,7 @@ fn same_set(name: &str, one: &[Vec<u8>], other: &[Vec<u8>]) -> Result<(), String
     Err(format!("{name} of the {order} order alone: {bytes}"))
 }
 
-/// Whether no source and deadline, five bytes, come twice.
+/// Whether no source and deadline, nine bytes, come twice.
 fn once<'name>(name: &str, mut names: impl Iterator<Item = &'name [u8]>) -> Result<(), String> {
     let mut earlier = BTreeSet::new();
     match names.find(|name| !earlier.insert(*name)) {
@@ -79,24 +84,24 @@ impl End {
 
     /// Whether receives of frames that were sent may end so: no other refusal was answered, and no
     /// message waits twice, or stands twice in the log, of which `logged` says what was there.
-    pub fn possible(&self, logged: impl Fn(u8, u32) -> bool) -> Result<(), String> {
+    pub fn possible(&self, logged: impl Fn(u8, u64) -> bool) -> Result<(), String> {
         let other = self.numbers.iter().find(|number| !NUMBERS.contains(number));
         if let Some(number) = other {
             return Err(format!("a receive answered {number}"));
         }
         once(
             "waiting message",
-            self.record.frames.iter().map(|frame| &frame[5..10]),
+            self.record.frames.iter().map(|frame| &frame[5..][..NAME]),
         )?;
-        once("log record", self.log.iter().map(|record| &record[..5]))?;
+        once("log record", self.log.iter().map(|record| &record[..NAME]))?;
         let stood = self.log.iter().find(|record| {
-            let deadline = u32::from_be_bytes([record[1], record[2], record[3], record[4]]);
-            logged(record[0], deadline)
+            let (source, deadline) = compose::name_logged(record);
+            logged(source, deadline)
         });
         match stood {
             None => Ok(()),
             Some(record) => {
-                let name = hexadecimal::write(&record[..5]);
+                let name = hexadecimal::write(&record[..NAME]);
                 Err(format!("log record {name} was in the log already"))
             }
         }

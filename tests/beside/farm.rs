@@ -2,13 +2,19 @@
 
 use crate::calls::Call;
 use crate::claims::{Claims, Spoken};
-use crate::compose;
+use crate::compose::{self, BORDER};
 use crate::lists::Done;
 use crate::member::Member;
 use crate::plan::Plan;
 use crate::random::Random;
-use crate::second::{Answer, Make, FARTHEST_AHEAD, FRAME, OUTPUT};
+use crate::second::{Answer, Make, FRAME, OUTPUT};
 use crate::side::{Found, Side};
+
+/// Whether a frame has a deadline that version 1 has no room for, and an entry that it has room for.
+fn across_border(frame: &[u8]) -> bool {
+    let below = |(_, entry): &(u8, u64)| *entry <= BORDER;
+    compose::deadline_of(frame) > BORDER && compose::entries_of(frame).iter().any(below)
+}
 
 pub struct Farm<'side, S: Side> {
     pub side: &'side mut S,
@@ -18,7 +24,7 @@ pub struct Farm<'side, S: Side> {
     /// The frames that the list sent, in that order.
     pub frames: Vec<Vec<u8>>,
     /// For each of these frames the make of its panel as it was sent.
-    makes: Vec<Make>,
+    pub makes: Vec<Make>,
     pub claims: Claims,
     pub done: Done,
 }
@@ -71,6 +77,7 @@ impl<'side, S: Side> Farm<'side, S> {
                     let bytes = frame[..answer.length.min(frame.len())].to_vec();
                     let far = member.far_ahead(compose::deadline_of(&bytes));
                     self.done.sent_far_ahead += u64::from(far);
+                    self.done.across_border += u64::from(across_border(&bytes));
                     member.hold(self.frames.len());
                     self.frames.push(bytes);
                     self.makes.push(member.make);
@@ -160,7 +167,7 @@ impl<'side, S: Side> Farm<'side, S> {
     /// A panel's clock goes on and is read. At times it jumps, or shows the very second at which
     /// something changes for a message.
     pub fn clock(&mut self, place: usize) -> Result<(), Found> {
-        let step = self.random.below(self.plan.clock_step + 1) as u32;
+        let step = self.random.below(self.plan.clock_step + 1) as u64;
         let member = &mut self.members[place];
         let mut reading = member.clock.max(member.time).saturating_add(step);
         if self.random.chance(self.plan.jumps) {
@@ -177,90 +184,5 @@ impl<'side, S: Side> Farm<'side, S> {
         member.clock = reading;
         let call = self.lent(Call::clock(reading));
         self.call(place, &call).map(|_| ())
-    }
-
-    /// Whether a frame is not passed on to this panel yet.
-    fn held_back(&self, frame: usize, taker: usize) -> bool {
-        self.plan.held_back
-            && self.done.calls < self.plan.calls / 2
-            && taker == self.members.len() - 1
-            && self.frames[frame][5] == self.members[0].number
-    }
-
-    /// Two panels meet: one passes frames on that it holds, own and carried. Some are lost.
-    pub fn contact(&mut self, giver: usize, taker: usize) -> Result<(), Found> {
-        let copies = self.random.pick(&[0, 0, 5, 25]);
-        let member = &self.members[taker];
-        let mut passed = Vec::new();
-        for frame in &self.members[giver].held {
-            if self.held_back(*frame, taker) {
-                continue;
-            }
-            let deadline = compose::deadline_of(&self.frames[*frame]);
-            let refused = deadline < member.time || member.far_ahead(deadline);
-            let new = !member.holds(*frame) && (!refused || self.random.chance(20));
-            if new || self.random.chance(copies) {
-                passed.push(*frame);
-            }
-        }
-        self.plan.order.arrange(&mut passed, &mut self.random);
-        passed.truncate(self.random.between(1, self.plan.most_passed));
-        for frame in passed {
-            if self.random.chance(self.plan.lost) {
-                continue;
-            }
-            self.pass(taker, frame)?;
-            if self.random.chance(self.plan.twice) {
-                self.pass(taker, frame)?;
-            }
-        }
-        Ok(())
-    }
-
-    /// A frame is passed on. Refused for lack of places, or as far ahead, it may be so again.
-    pub fn pass(&mut self, taker: usize, frame: usize) -> Result<(), Found> {
-        let call = self.lent(Call::receive(&self.frames[frame]));
-        let answer = self.call(taker, &call)?;
-        let member = &mut self.members[taker];
-        match answer.number {
-            23 => {}
-            32 => member.refused.push(frame),
-            _ => member.hold(frame),
-        }
-        if answer.number == 0 {
-            self.taken(taker, frame);
-        }
-        Ok(())
-    }
-
-    /// Counts a message that was taken.
-    fn taken(&mut self, taker: usize, frame: usize) {
-        let member = &self.members[taker];
-        let done = &mut self.done;
-        done.taken_later += u64::from(member.refused.contains(&frame));
-        match (member.make, self.makes[frame]) {
-            (Make::New, Make::Old) => done.new_took_old += 1,
-            (Make::Old, Make::New) => done.old_took_new += 1,
-            _ => {}
-        }
-    }
-
-    /// A clock call, after which a frame comes again that was refused as far ahead: in the last
-    /// second in which it is that, or in the next.
-    pub fn clock_and_pass(&mut self, place: usize) -> Result<(), Found> {
-        let member = &self.members[place];
-        if member.refused.is_empty() {
-            return self.clock(place);
-        }
-        let frame = self.random.pick(&member.refused);
-        let deadline = compose::deadline_of(&self.frames[frame]);
-        let before = FARTHEST_AHEAD + self.random.below(2) as u32;
-        let reading = deadline.saturating_sub(before);
-        if reading < member.time || reading - member.time > self.plan.clocks.near() {
-            return self.clock(place);
-        }
-        let call = self.lent(Call::clock(reading));
-        self.call(place, &call)?;
-        self.pass(place, frame)
     }
 }

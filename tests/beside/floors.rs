@@ -28,7 +28,7 @@ pub fn run(both: &mut Both) -> Result<(), Found> {
 }
 
 /// Panel 0 at this time, with this floor and these marks.
-pub fn floored(time: u32, floor: u32, marks: Entries) -> Kept {
+pub fn floored(time: u64, floor: u64, marks: Entries) -> Kept {
     Kept {
         floor,
         ..panel(time, marks)
@@ -45,7 +45,7 @@ pub fn waiting(kept: Kept, frames: &[Vec<u8>]) -> Kept {
 }
 
 /// A panel has this time and this floor, and so many messages wait there.
-pub fn has(both: &Both, pair: &Pair, expected: (u32, u32, usize)) -> Result<(), Found> {
+pub fn has(both: &Both, pair: &Pair, expected: (u64, u64, usize)) -> Result<(), Found> {
     let given = (pair.module.time, pair.module.floor, pair.module.count);
     match given == expected {
         true => Ok(()),
@@ -57,7 +57,7 @@ pub fn has(both: &Both, pair: &Pair, expected: (u32, u32, usize)) -> Result<(), 
 }
 
 /// Makes a call that hands these messages; the panel has this floor then.
-pub fn raises(both: &mut Both, kept: &Kept, call: Call, log: Log, floor: u32) -> Result<(), Found> {
+pub fn raises(both: &mut Both, kept: &Kept, call: Call, log: Log, floor: u64) -> Result<(), Found> {
     let mut pair = both.kept(kept);
     hands(both, &mut pair, call, log)?;
     let (time, count) = (pair.module.time, pair.module.count);
@@ -65,7 +65,7 @@ pub fn raises(both: &mut Both, kept: &Kept, call: Call, log: Log, floor: u32) ->
 }
 
 /// Frames of source 1 without entries: time, floor and deadline, and what they are answered with.
-fn each(both: &mut Both, cases: &[(u32, u32, u32, u8)]) -> Result<(), Found> {
+fn each(both: &mut Both, cases: &[(u64, u64, u64, u8)]) -> Result<(), Found> {
     cases
         .iter()
         .try_for_each(|(time, floor, deadline, number)| {
@@ -89,25 +89,28 @@ fn lapsed(both: &mut Both) -> Result<(), Found> {
         (0, 0, 1, 0),
         (0, 1, 1, 21),
         (0, 1, 2, 0),
-        (0, u32::MAX, 1, 21),
-        (u32::MAX, u32::MAX, u32::MAX, 21),
-        (u32::MAX, u32::MAX - 1, u32::MAX, 0),
-        (u32::MAX - 1, u32::MAX - 1, u32::MAX - 1, 21),
+        (0, u64::MAX, 1, 21),
+        (u64::MAX, u64::MAX, u64::MAX, 21),
+        (u64::MAX, u64::MAX - 1, u64::MAX, 0),
+        (u64::MAX - 1, u64::MAX - 1, u64::MAX - 1, 21),
     ];
     each(both, &cases)
 }
 
-/// Floors and deadlines below and above 2 to the power 31: none of them has a sign.
+/// Floors and deadlines below and above 2 to the power 31, 32 and 63: none of them has a sign, and
+/// all their bits are compared.
 fn about_the_half(both: &mut Both) -> Result<(), Found> {
-    const HALF: u32 = 1 << 31;
-    let cases = [
-        (HALF - 9, HALF + 5, HALF - 1, 21),
-        (HALF - 9, HALF + 5, HALF + 5, 21),
-        (HALF - 9, HALF + 5, HALF + 6, 0),
-        (HALF - 9, HALF - 5, HALF - 5, 21),
-        (HALF - 9, HALF - 5, HALF + 5, 0),
-    ];
-    each(both, &cases)
+    for half in [1 << 31, 1 << 32, 1 << 63] {
+        let cases = [
+            (half - 9, half + 5, half - 1, 21),
+            (half - 9, half + 5, half + 5, 21),
+            (half - 9, half + 5, half + 6, 0),
+            (half - 9, half - 5, half - 5, 21),
+            (half - 9, half - 5, half + 5, 0),
+        ];
+        each(both, &cases)?;
+    }
+    Ok(())
 }
 
 /// An entry is met that is at most the floor, whatever the time and the mark are. Each counts as a
@@ -141,7 +144,7 @@ fn met(both: &mut Both) -> Result<(), Found> {
 
 /// A floor below the time decides nothing: so it is as long as no clock is set back.
 fn below_the_time(both: &mut Both) -> Result<(), Found> {
-    let cases: &[(u32, Entries, Expected)] = &[
+    let cases: &[(u64, Entries, Expected)] = &[
         (98, &[], (21, true, 0)),
         (99, &[(4, 98)], (21, true, 1)),
         (100, &[(4, 99)], (0, true, 1)),
@@ -180,7 +183,8 @@ fn other_refusals(both: &mut Both) -> Result<(), Found> {
     let mut zero = both.kept(&kept);
     let short = Call::receive(&lapsed).lent(OUTPUT - 1, FRAME);
     refuses(both, &mut zero, short, 10)?;
-    refuses(both, &mut zero, Call::receive(&lapsed[1..]), 1)?;
+    let cut_short = Call::receive(&lapsed[..lapsed.len() - 1]);
+    refuses(both, &mut zero, cut_short, 1)?;
     let broken = Kept { own: 64, ..kept };
     answers(both, &broken, &lapsed, (26, true, 0))
 }
@@ -188,7 +192,7 @@ fn other_refusals(both: &mut Both) -> Result<(), Found> {
 /// An own message that has lapsed by the floor is handed all the same, and the floor has no part in
 /// its deadline.
 fn lapsed_as_it_is_sent(both: &mut Both) -> Result<(), Found> {
-    for floor in [109, 110, 111, 5000, u32::MAX] {
+    for floor in [109, 110, 111, 5000, u64::MAX] {
         let kept = floored(100, floor, &[]);
         raises(both, &kept, Call::send(b"", 10), &[(0, 110, b"")], floor)?;
         raises(both, &kept, Call::beacon(b""), &[(0, 1300, b"")], floor)?;
@@ -216,7 +220,7 @@ fn dropped_by_the_floor(both: &mut Both) -> Result<(), Found> {
 
 /// 26 does not look at the floor: below and above the time and high, up to the last, all calls go.
 fn whatever_the_floor(both: &mut Both) -> Result<(), Found> {
-    for floor in [0, 99, 100, 101, 300, 301, u32::MAX] {
+    for floor in [0, 99, 100, 101, 300, 301, u64::MAX] {
         let kept = floored(100, floor, &[(3, 300)]);
         let mut zero = both.kept(&kept);
         hands(both, &mut zero, Call::set_back(90), &[])?;

@@ -1,16 +1,17 @@
-//! Frames through the frame check, and through a receive with its trace: damaged at every byte,
-//! cut, extended, and random ones of every length.
+//! Frames of both versions through the frame check, and through a receive with its trace: damaged at
+//! every byte, cut, extended, and random ones of every length.
 
 use crate::calls::Call;
 use crate::compare::Both;
-use crate::compose;
+use crate::compose::{self, BORDER};
 use crate::module;
 use crate::random::Random;
 use crate::second::{Message, FARTHEST_AHEAD};
 use crate::side::Found;
+use std::collections::BTreeSet;
 
 /// Bytes of the longest random frame.
-const LONGEST: usize = 400;
+const LONGEST: usize = 600;
 
 pub fn run(both: &mut Both, seed: u64, rounds: u64) -> Result<(), Found> {
     for round in 0..rounds {
@@ -18,23 +19,28 @@ pub fn run(both: &mut Both, seed: u64, rounds: u64) -> Result<(), Found> {
         for length in 0..=LONGEST {
             let mut bytes = random.bytes(length);
             tried(both, &bytes, &mut random)?;
-            let start = compose::readable(round as u8 % 64, &[9, 1 << 20, u32::MAX], &mut random);
+            let numbers = [9, 1 << 20, BORDER, u64::MAX];
+            let start = compose::readable(round as u8 % 64, &numbers, &mut random);
+            let start = compose::in_any_version(start, &mut random);
             let known = random.below(start.len() + 1).min(length);
             bytes[..known].copy_from_slice(&start[..known]);
             tried(both, &bytes, &mut random)?;
         }
         for entries in [0, 4, 64] {
-            let frame = sample(entries, &mut random);
-            damaged_everywhere(both, &frame, &mut random)?;
-            damaged_twice(both, &frame, &mut random)?;
+            let of_version_1 = compose::in_version_1(&sample(entries, BORDER, &mut random));
+            let of_version_2 = sample(entries, u64::MAX, &mut random);
+            for frame in of_version_1.into_iter().chain([of_version_2]) {
+                damaged_everywhere(both, &frame, &mut random)?;
+                damaged_twice(both, &frame, &mut random)?;
+            }
         }
     }
     Ok(())
 }
 
-/// A readable frame with about so many entries.
-fn sample(many: usize, random: &mut Random) -> Vec<u8> {
-    let deadline = random.pick(&[2, 1000, 1 << 24, u32::MAX]);
+/// A readable frame with about so many entries, and a deadline up to the last.
+fn sample(many: usize, last: u64, random: &mut Random) -> Vec<u8> {
+    let deadline = random.pick(&[2, 1000, 1 << 24, last]);
     let mut entries = Vec::new();
     for panel in 0..64 {
         if random.below(64) < many {
@@ -45,24 +51,19 @@ fn sample(many: usize, random: &mut Random) -> Vec<u8> {
     compose::frame(source, deadline, &entries, &compose::payload(random))
 }
 
+/// What a byte is changed to.
+fn changed(byte: u8) -> BTreeSet<u8> {
+    let near = [byte ^ 1, byte ^ 128, byte.wrapping_add(1)];
+    let all = [0, 1, 32, 33, 63, 64, 255].into_iter().chain(near);
+    all.filter(|changed| *changed != byte).collect()
+}
+
 /// Each byte changed in several ways, each cut, and some bytes more.
 fn damaged_everywhere(both: &mut Both, frame: &[u8], random: &mut Random) -> Result<(), Found> {
     tried(both, frame, random)?;
     for place in 0..frame.len() {
         tried(both, &frame[..place], random)?;
-        let byte = frame[place];
-        for changed in [
-            0,
-            1,
-            32,
-            33,
-            63,
-            64,
-            255,
-            byte ^ 1,
-            byte ^ 128,
-            byte.wrapping_add(1),
-        ] {
+        for changed in changed(frame[place]) {
             let mut bytes = frame.to_vec();
             bytes[place] = changed;
             tried(both, &bytes, random)?;
@@ -96,11 +97,16 @@ fn damaged_twice(both: &mut Both, frame: &[u8], random: &mut Random) -> Result<(
 /// high deadlines are taken too, near a deadline that can be read.
 fn tried(both: &mut Both, bytes: &[u8], random: &mut Random) -> Result<(), Found> {
     let by_module = module::frame_check(bytes);
-    let by_second = Message::read(bytes).err().unwrap_or(0);
+    let reading = Message::read(bytes);
+    let by_second = reading.as_ref().err().copied().unwrap_or(0);
     both.counts.check(by_module);
     let call = Call::receive(bytes);
     if by_module != by_second {
         let what = format!("frame check: module {by_module}, second {by_second}");
+        return Err(Found::new(what).within(call));
+    }
+    if reading.is_ok_and(|message| message.frame() != bytes) {
+        let what = "the second reads a message, and writes other bytes for it in the same version";
         return Err(Found::new(what).within(call));
     }
     let mut pair = both.fresh(random.below(64) as u8)?;

@@ -8,20 +8,20 @@ use std::fmt;
 #[derive(Clone, Debug, PartialEq, Eq)]
 pub struct Kept {
     pub own: u8,
-    pub time: u32,
-    pub high: u32,
-    pub marks: [u32; 64],
-    pub barrier: [u32; 64],
-    pub floor: u32,
+    pub time: u64,
+    pub high: u64,
+    pub marks: [u64; 64],
+    pub barrier: [u64; 64],
+    pub floor: u64,
     /// How many messages the record says are waiting.
     pub count: usize,
-    /// The frames of the first 32 of them. A slot has room for 307 bytes: of a longer frame the
+    /// The frames of the first 32 of them. A slot has room for 567 bytes: of a longer frame the
     /// length is kept, and so many bytes.
     pub frames: Vec<Vec<u8>>,
 }
 
 /// The entries that are not 0, as `panel:entry` with commas between.
-fn entries(numbers: &[u32; 64]) -> String {
+fn entries(numbers: &[u64; 64]) -> String {
     let present = numbers.iter().enumerate().filter(|(_, entry)| **entry != 0);
     let texts: Vec<String> = present
         .map(|(panel, entry)| format!("{panel}:{entry}"))
@@ -32,7 +32,7 @@ fn entries(numbers: &[u32; 64]) -> String {
     }
 }
 
-fn read_entries(text: &str) -> Option<[u32; 64]> {
+fn read_entries(text: &str) -> Option<[u64; 64]> {
     let mut numbers = [0; 64];
     for entry in text.split(',').filter(|_| text != "-") {
         let (panel, entry) = entry.split_once(':')?;
@@ -43,7 +43,7 @@ fn read_entries(text: &str) -> Option<[u32; 64]> {
 
 impl Kept {
     /// A panel at this time, in all else as a fresh one.
-    pub fn at(own: u8, time: u32) -> Kept {
+    pub fn at(own: u8, time: u64) -> Kept {
         Kept {
             own,
             time,

@@ -36,6 +36,15 @@ pub struct Done {
     pub new_took_old: u64,
     /// Messages of panels of the new make that one of the old make took.
     pub old_took_new: u64,
+    /// Messages sent with a deadline that version 1 has no room for, and an entry that it has room
+    /// for.
+    pub across_border: u64,
+    /// Messages taken in version 1.
+    pub version_1_taken: u64,
+    /// Copies refused as had already, which came in another version than the message had: of one
+    /// that waits, and of one that stands in the log.
+    pub other_version_waiting: u64,
+    pub other_version_logged: u64,
     /// What was seen of frames that were received in two orders.
     pub arrivals: Arrivals,
 }
@@ -55,6 +64,10 @@ impl Done {
         self.brought += more.brought;
         self.new_took_old += more.new_took_old;
         self.old_took_new += more.old_took_new;
+        self.across_border += more.across_border;
+        self.version_1_taken += more.version_1_taken;
+        self.other_version_waiting += more.other_version_waiting;
+        self.other_version_logged += more.other_version_logged;
         self.arrivals.add(&more.arrivals);
     }
 }
@@ -152,7 +165,7 @@ impl<S: Side> Farm<'_, S> {
             0 => odd_send(random),
             1 => {
                 let back = random.any_size().min(time);
-                Call::clock(time - back.min(random.pick(&[0, 1, u32::MAX])))
+                Call::clock(time - back.min(random.pick(&[0, 1, u64::MAX])))
             }
             2 => self.members[place].set_back(self.plan.odd_set_back(time, random)),
             _ if self.frames.is_empty() => {
@@ -160,22 +173,23 @@ impl<S: Side> Farm<'_, S> {
                 Call::receive(&random.bytes(length))
             }
             3 => {
-                let own: Vec<&Vec<u8>> = self
-                    .frames
-                    .iter()
-                    .filter(|frame| frame[5] == number)
-                    .collect();
-                match own.is_empty() {
-                    true => Call::receive(&self.frames[random.below(self.frames.len())]),
-                    false => Call::receive(own[random.below(own.len())]),
-                }
+                let any = 0..self.frames.len();
+                let own = any.clone().filter(|frame| self.frames[*frame][5] == number);
+                let own: Vec<usize> = own.collect();
+                let frame = match own.is_empty() {
+                    true => random.below(any.end),
+                    false => random.pick(&own),
+                };
+                Call::receive(&self.coming(frame))
             }
             _ => {
-                let frame = &self.frames[random.below(self.frames.len())];
-                let way = random.between(1, 9) as u8;
-                Call::receive(&compose::damaged(frame, way, random))
+                let frame = random.below(self.frames.len());
+                let frame = self.coming(frame);
+                let way = self.random.between(1, 9) as u8;
+                Call::receive(&compose::damaged(&frame, way, &mut self.random))
             }
         };
+        let random = &mut self.random;
         let output = compose::buffer_length(OUTPUT, random);
         let call = call.lent(output, compose::buffer_length(FRAME, random));
         self.call(place, &call).map(|_| ())
@@ -198,11 +212,13 @@ impl<S: Side> Farm<'_, S> {
             false => random.below(64) as u8,
         };
         let bytes = compose::readable(source, &numbers, random);
+        let bytes = compose::in_any_version(bytes, random);
         let mut call = Call::receive(&bytes);
         if random.chance(10) && !self.frames.is_empty() {
-            let mut bytes = self.frames[random.below(self.frames.len())].clone();
-            let byte = random.below(bytes.len());
-            bytes[byte] ^= 1 << random.below(8);
+            let frame = random.below(self.frames.len());
+            let mut bytes = self.coming(frame);
+            let byte = self.random.below(bytes.len());
+            bytes[byte] ^= 1 << self.random.below(8);
             call = Call::receive(&bytes);
         }
         self.call(place, &call).map(|_| ())
@@ -213,10 +229,10 @@ impl<S: Side> Farm<'_, S> {
     fn later_one_first(&mut self, place: usize) -> Result<(), Found> {
         let mut panels: Vec<u8> = (0..64).collect();
         self.random.shuffle(&mut panels);
-        let more = self.random.between(1, 100) as u32;
+        let more = self.random.between(1, 100) as u64;
         let start = self.members[place].time.saturating_add(more);
         let deadline = |later| start.saturating_add(later);
-        let frames: [(u8, u32, &[(u8, u32)]); 4] = [
+        let frames: [(u8, u64, &[(u8, u64)]); 4] = [
             (panels[0], deadline(1), &[(panels[1], start)]),
             (panels[0], deadline(2), &[]),
             (panels[2], deadline(3), &[(panels[0], deadline(2))]),

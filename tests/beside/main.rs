@@ -26,6 +26,7 @@ mod mixed;
 mod module;
 mod noticing;
 mod orders;
+mod passing;
 mod plan;
 mod random;
 mod records;

@@ -33,7 +33,7 @@ pub struct Panel {
 
 impl Panel {
     /// The 64 barrier entries.
-    pub fn barrier(&self) -> [u32; 64] {
+    pub fn barrier(&self) -> [u64; 64] {
         match &self.now {
             Now::Alone(panel) => panel.barrier_entries(),
             Now::Both(pair) => pair.module.barrier,
@@ -159,7 +159,7 @@ impl Side for Mixed<'_> {
         }
     }
 
-    fn floor(&self, panel: &Panel) -> Option<u32> {
+    fn floor(&self, panel: &Panel) -> Option<u64> {
         match &panel.now {
             _ if self.claims_alone => None,
             Now::Alone(panel) => panel.keeps_floor.then_some(panel.floor),

@@ -48,8 +48,7 @@ impl<S: Side> Farm<'_, S> {
     /// the log.
     fn lacks(&self, place: usize, frame: usize) -> bool {
         let member = &self.members[place];
-        let bytes = &self.frames[frame];
-        let (source, deadline) = (bytes[5], compose::deadline_of(bytes));
+        let (source, deadline) = compose::name_of(&self.frames[frame]);
         let alive = deadline >= member.time && !member.far_ahead(deadline);
         alive && source != member.number && !self.claims.stands(place, source, deadline)
     }
@@ -90,7 +89,7 @@ impl<S: Side> Farm<'_, S> {
             return None;
         }
         let orders = two_orders(&frames, &mut self.random);
-        let receive = |frame: &usize| Call::receive(&self.frames[*frame]);
-        Some(orders.map(|order| order.iter().map(receive).collect()))
+        let mut receive = |frame: usize| Call::receive(&self.coming(frame));
+        Some(orders.map(|order| order.into_iter().map(&mut receive).collect()))
     }
 }

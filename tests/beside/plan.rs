@@ -1,5 +1,6 @@
 //! What kind of list is made: how many panels and calls, how the clocks go, who passes what on.
 
+use crate::compose::BORDER;
 use crate::random::Random;
 use crate::second::{Make, BEACON_LIFETIME, DEFAULT_LIFETIME, FARTHEST_AHEAD};
 use crate::shadow::Rule;
@@ -12,10 +13,12 @@ pub enum Clocks {
     Near,
     /// Minutes.
     Apart,
-    /// Up to the whole range of 32 bits.
+    /// Up to the whole range of 64 bits.
     Wide,
     /// Near the last second.
     Last,
+    /// On both sides of the last deadline that version 1 has room for.
+    Border,
     /// About 14 days, or twice that.
     Weeks,
     /// The same, up to the last second.
@@ -23,45 +26,49 @@ pub enum Clocks {
 }
 
 /// No seconds, those of 14 days or twice as many, and some more.
-fn weeks(random: &mut Random) -> u32 {
+fn weeks(random: &mut Random) -> u64 {
     let more = random.pick(&[40, 4_000, 24_000]);
-    random.below(3) as u32 * FARTHEST_AHEAD + random.below(more) as u32
+    random.below(3) as u64 * FARTHEST_AHEAD + random.below(more) as u64
 }
 
 impl Clocks {
     /// What a panel's clock shows at first.
-    pub fn first_reading(self, random: &mut Random) -> u32 {
+    pub fn first_reading(self, random: &mut Random) -> u64 {
         match self {
-            Clocks::Near => 100 + random.below(4) as u32,
-            Clocks::Apart => random.below(500) as u32,
+            Clocks::Near => 100 + random.below(4) as u64,
+            Clocks::Apart => random.below(500) as u64,
             Clocks::Wide => random.any_size(),
             Clocks::Last => {
                 let before = random.pick(&[40, 4_000, 24_000]);
-                u32::MAX - random.below(before) as u32
+                u64::MAX - random.below(before) as u64
+            }
+            Clocks::Border => {
+                let apart = random.pick(&[40, 4_000, 24_000]);
+                BORDER + random.below(apart) as u64 - random.below(apart) as u64
             }
             Clocks::Weeks => weeks(random),
-            Clocks::LastWeeks => u32::MAX - weeks(random),
+            Clocks::LastWeeks => u64::MAX - weeks(random),
         }
     }
 
     /// The last time at which a message of this deadline has not lapsed or, where clocks are so far
     /// apart, at which it is far ahead; or the second after it.
-    pub fn edge(self, deadline: u32, random: &mut Random) -> u32 {
+    pub fn edge(self, deadline: u64, random: &mut Random) -> u64 {
         let far = matches!(self, Clocks::Wide | Clocks::Weeks | Clocks::LastWeeks);
         let last = match far && random.chance(50) {
             true => deadline.saturating_sub(FARTHEST_AHEAD + 1),
             false => deadline,
         };
-        last.saturating_add(random.below(2) as u32)
+        last.saturating_add(random.below(2) as u64)
     }
 
     /// How far ahead an edge may be to be set as a time.
-    pub fn near(self) -> u32 {
+    pub fn near(self) -> u64 {
         match self {
             Clocks::Near => 20,
             Clocks::Apart => 7_500,
-            Clocks::Wide => u32::MAX,
-            Clocks::Last | Clocks::Weeks | Clocks::LastWeeks => 24_000,
+            Clocks::Wide => u64::MAX,
+            Clocks::Last | Clocks::Border | Clocks::Weeks | Clocks::LastWeeks => 24_000,
         }
     }
 }
@@ -146,6 +153,8 @@ pub struct Plan {
     pub lifetimes: Lifetimes,
     /// How many sends in a hundred are beacons.
     pub beacons: usize,
+    /// How many frames in a hundred come in version 1, where that has room for them.
+    pub version_1: usize,
     pub order: Order,
     /// How many frames in a hundred are lost at a contact.
     pub lost: usize,
@@ -179,9 +188,18 @@ fn calls(random: &mut Random) -> u64 {
     random.between(least, most) as u64
 }
 
+/// The clocks of farms in which much is passed on.
+const TOGETHER: [Clocks; 5] = [
+    Clocks::Near,
+    Clocks::Apart,
+    Clocks::Wide,
+    Clocks::Border,
+    Clocks::Weeks,
+];
+
 impl Plan {
     pub fn any(random: &mut Random, lawful: bool) -> Plan {
-        use Clocks::{Apart, Last, LastWeeks, Near, Weeks, Wide};
+        use Clocks::{Apart, Border, Last, LastWeeks, Near, Weeks, Wide};
         use Makes::{AllNew, Half, OneNew};
         use Order::{Any, NewestFirst, OldestFirst};
         let mut plan = Plan {
@@ -194,12 +212,15 @@ impl Plan {
             lawful,
             claims: lawful,
             arrivals: 0,
-            clocks: random.pick(&[Near, Near, Apart, Apart, Wide, Last, Weeks, LastWeeks]),
+            clocks: random.pick(&[
+                Near, Near, Apart, Apart, Wide, Last, Border, Border, Weeks, LastWeeks,
+            ]),
             clock_step: random.pick(&[0, 1, 3, 30]),
             jumps: random.pick(&[0, 0, 0, 2]),
             wrong_years: random.pick(&[0, 0, 20, 60]),
             lifetimes: random.pick(&[Lifetimes::Short, Lifetimes::Default, Lifetimes::Any]),
             beacons: random.pick(&[0, 0, 10, 50]),
+            version_1: random.pick(&[0, 30, 60, 100]),
             order: random.pick(&[Any, Any, OldestFirst, NewestFirst]),
             lost: random.pick(&[0, 5, 30]),
             twice: random.pick(&[0, 0, 10, 30]),
@@ -265,11 +286,11 @@ impl Plan {
     }
 
     /// A set back with a reading of any kind, at this time.
-    pub fn odd_set_back(&self, time: u32, random: &mut Random) -> u32 {
+    pub fn odd_set_back(&self, time: u64, random: &mut Random) -> u64 {
         let change = random.any_size();
         match random.below(4) {
             0 => time,
-            1 => random.pick(&[time.saturating_add(1), u32::MAX]),
+            1 => random.pick(&[time.saturating_add(1), u64::MAX]),
             2 if self.wrong_years > 0 => time.saturating_sub(random.pick(&[1, 5, change])),
             _ => time.saturating_add(change),
         }
@@ -294,7 +315,7 @@ impl Plan {
         self.panels = random.between(3, 12);
         self.shadows = random.chance(60);
         self.calls = self.calls.max(200);
-        self.clocks = random.pick(&[Clocks::Near, Clocks::Apart, Clocks::Wide, Clocks::Weeks]);
+        self.clocks = random.pick(&TOGETHER);
         self.clock_step = random.pick(&[1, 3]);
         self.wrong_years = random.pick(&[0, 40, 80]);
         self.lost = random.pick(&[0, 5, 30]);
@@ -308,7 +329,7 @@ impl Plan {
     fn fills_up(&mut self, random: &mut Random) {
         self.panels = random.between(2, 6);
         self.calls = self.calls.max(200);
-        self.clocks = random.pick(&[Clocks::Near, Clocks::Apart, Clocks::Wide, Clocks::Weeks]);
+        self.clocks = random.pick(&TOGETHER);
         self.clock_step = 1;
         self.lifetimes = random.pick(&[Lifetimes::Default, Lifetimes::Any]);
         self.order = Order::NewestFirst;

@@ -58,7 +58,7 @@ impl Random {
     }
 
     /// A number of which any size is equally likely.
-    pub fn any_size(&mut self) -> u32 {
-        (self.next() as u32) >> self.below(32)
+    pub fn any_size(&mut self) -> u64 {
+        self.next() >> self.below(64)
     }
 }

@@ -23,7 +23,7 @@ pub fn run(both: &mut Both) -> Result<(), Found> {
 /// The floor rises to the largest entry that has lapsed and that its mark has not reached, and
 /// never falls. The barrier is not asked.
 fn raised_on_arrival(both: &mut Both) -> Result<(), Found> {
-    let cases: &[(u32, Entries, u32)] = &[
+    let cases: &[(u64, Entries, u64)] = &[
         (0, &[], 0),
         (0, &[(4, 99)], 99),
         (0, &[(4, 1)], 1),
@@ -125,7 +125,7 @@ fn not_handed(both: &mut Both) -> Result<(), Found> {
 /// The own message is handed too. On a record that no list reaches the barrier has entries that
 /// their marks have not reached; and a message may wait for the one that is sent.
 fn by_a_send(both: &mut Both) -> Result<(), Found> {
-    let cases: &[(Entries, Entries, u32)] = &[
+    let cases: &[(Entries, Entries, u64)] = &[
         (&[(4, 90)], &[], 90),
         (&[(4, 90)], &[(4, 89)], 90),
         (&[(4, 90)], &[(4, 90)], 0),

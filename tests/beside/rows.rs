@@ -150,6 +150,22 @@ pub fn of_lists(done: &Done) -> Rows {
         ),
         (done.sent_far_ahead, "messages sent far ahead", true),
         (done.taken_later, "messages taken after a 32", true),
+        (
+            done.across_border,
+            "messages sent above 4,294,967,295 that name one at most that",
+            true,
+        ),
+        (done.version_1_taken, "messages taken in version 1", true),
+        (
+            done.other_version_waiting,
+            "waiting messages refused with 22 in the other version",
+            true,
+        ),
+        (
+            done.other_version_logged,
+            "logged messages refused with 22 in the other version",
+            true,
+        ),
         (done.claim_checks, "checks of demand 3's claims", false),
         (
             done.spoken.messages,

@@ -1,6 +1,7 @@
 //! Whether numbers and records are the same, or in what words they differ.
 
 use crate::calls::Call;
+use crate::compose;
 use crate::hexadecimal;
 use crate::module::Record;
 use crate::second::{self, Answer, LOG_RECORD, OUTPUT};
@@ -37,11 +38,11 @@ pub fn foretold(trace: Answer, call: &Call, answer: Answer, output: &[u8]) -> Re
     if number != 0 {
         return Ok(());
     }
-    // Source and deadline stand next to each other in the frame and in the log record.
+    let name = compose::name_of(call.input());
     let mut log = output.chunks_exact(LOG_RECORD).take(answer.count);
     let first = log
         .next()
-        .is_some_and(|record| record[..5] == call.input()[5..10]);
+        .is_some_and(|record| compose::name_logged(record) == name);
     match (trace.test.is_some_and(|test| test.ready), first) {
         (true, false) => Err("the message should be the first in the log".to_string()),
         (false, true) => Err("the message should not be the first in the log".to_string()),
@@ -98,26 +99,22 @@ pub fn all_zero(fresh: &Record) -> Result<(), String> {
 }
 
 /// Compares 64 marks, or 64 barrier entries.
-fn same_entries(name: &str, module: &[u32; 64], second: &[u32; 64]) -> Result<(), String> {
+fn same_entries(name: &str, module: &[u64; 64], second: &[u64; 64]) -> Result<(), String> {
     if module == second {
         return Ok(());
     }
     let mut entries = module.iter().zip(second).enumerate();
     entries.try_for_each(|(panel, (module, second))| {
-        same_number(
-            &format!("{name} {panel}"),
-            u64::from(*module),
-            u64::from(*second),
-        )
+        same_number(&format!("{name} {panel}"), *module, *second)
     })
 }
 
 /// Compares the records by their meaning.
 pub fn same_records(module: &Record, second: &second::Panel) -> Result<(), String> {
     same_number("own", u64::from(module.own), u64::from(second.own))?;
-    same_number("time", u64::from(module.time), u64::from(second.time))?;
-    same_number("high", u64::from(module.high), u64::from(second.high))?;
-    same_number("floor", u64::from(module.floor), u64::from(second.floor))?;
+    same_number("time", module.time, second.time)?;
+    same_number("high", module.high, second.high)?;
+    same_number("floor", module.floor, second.floor)?;
     same_number("waiting", module.count as u64, second.count() as u64)?;
     same_entries("mark", &module.marks, &second.marks())?;
     same_entries("barrier entry", &module.barrier, &second.barrier_entries())?;

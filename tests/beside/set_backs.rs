@@ -5,7 +5,7 @@ use crate::ahead::DAYS;
 use crate::calls::Call;
 use crate::cases::{hands, is, refuses, Log};
 use crate::compare::Both;
-use crate::compose::{frame, numbers};
+use crate::compose::{frame, numbers, BORDER};
 use crate::floors::{floored, has, waiting};
 use crate::kept::Kept;
 use crate::mixed::{Mixed, Panel};
@@ -29,8 +29,18 @@ pub fn run(both: &mut Both) -> Result<(), Found> {
 
 /// The time becomes the lower of its own and the reading, which is never refused.
 fn readings(both: &mut Both) -> Result<(), Found> {
-    for time in [0, 1, 500, u32::MAX] {
-        for reading in [0, 1, 499, 500, 501, u32::MAX - 1, u32::MAX] {
+    for time in [0, 1, 500, BORDER + 501, u64::MAX] {
+        for reading in [
+            0,
+            1,
+            499,
+            500,
+            501,
+            BORDER,
+            BORDER + 1,
+            u64::MAX - 1,
+            u64::MAX,
+        ] {
             let mut zero = both.kept(&floored(time, 7, &[(3, 450)]));
             hands(both, &mut zero, Call::set_back(reading), &[])?;
             has(both, &zero, (time.min(reading), 7, 0))?;
@@ -52,7 +62,7 @@ fn nothing_handed_nothing_dropped(both: &mut Both) -> Result<(), Found> {
     ];
     let mut kept = waiting(floored(100, 20, &[(3, 60), (9, 70)]), &frames);
     kept.barrier = numbers(&[(3, 50), (9, 70)]);
-    for reading in [0, 40, 99, 100, 101, u32::MAX] {
+    for reading in [0, 40, 99, 100, 101, u64::MAX] {
         let mut zero = both.kept(&kept);
         hands(both, &mut zero, Call::set_back(reading), &[])?;
         has(both, &zero, (reading.min(100), 20, 4))?;
@@ -101,7 +111,7 @@ fn clock_keeps_25(both: &mut Both) -> Result<(), Found> {
 /// A panel with a wrong year refuses all that comes, and takes it once it is set back. Its own
 /// messages stay above high.
 fn deaf_no_longer(both: &mut Both) -> Result<(), Found> {
-    const YEAR: u32 = 31_536_000;
+    const YEAR: u64 = 31_536_000;
     let note = Call::receive(&frame(1, 1000, &[], b"note"));
     let mut two = both.fresh(2)?;
     hands(both, &mut two, Call::clock(100), &[])?;
@@ -146,7 +156,7 @@ fn taken_again(both: &mut Both) -> Result<(), Found> {
 /// back; later messages are taken, and those that name it too.
 fn missed_for_good(both: &mut Both) -> Result<(), Found> {
     let missed = || Call::receive(&frame(1, 500, &[], b""));
-    let of = |source, deadline, entries: &[(u8, u32)]| {
+    let of = |source, deadline, entries: &[(u8, u64)]| {
         Call::receive(&frame(source, deadline, entries, b""))
     };
     let mut two = both.fresh(2)?;

@@ -19,7 +19,7 @@ pub enum Rule {
 }
 
 impl Rule {
-    fn allows(self, entry: u32, of_shadow: u32) -> bool {
+    fn allows(self, entry: u64, of_shadow: u64) -> bool {
         match self {
             Rule::AtMost => entry <= of_shadow,
             Rule::SameOrRemoved => entry == of_shadow || entry == 0,

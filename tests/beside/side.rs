@@ -66,7 +66,7 @@ pub trait Side {
     fn frame(&self) -> &[u8];
 
     /// The floor in the record of a panel, if it is to be held against the counted one.
-    fn floor(&self, panel: &Self::Panel) -> Option<u32>;
+    fn floor(&self, panel: &Self::Panel) -> Option<u64>;
 
     /// A panel that starts with the record of this one, in all else as it is, but has no shadow.
     fn copy(&mut self, panel: &Self::Panel) -> Self::Panel;
@@ -135,7 +135,7 @@ impl Side for Alone {
         self.room.frame()
     }
 
-    fn floor(&self, _: &second::Panel) -> Option<u32> {
+    fn floor(&self, _: &second::Panel) -> Option<u64> {
         None
     }
 

@@ -19,7 +19,7 @@ pub fn run(both: &mut Both) -> Result<(), Found> {
 }
 
 /// A message far ahead that waits for this one.
-fn waits_for(panel: u8, deadline: u32) -> Vec<u8> {
+fn waits_for(panel: u8, deadline: u64) -> Vec<u8> {
     frame(5, FAR, &[(panel, deadline)], b"far")
 }
 
@@ -69,7 +69,7 @@ fn waiting_stays(both: &mut Both) -> Result<(), Found> {
 
 /// It is handed once what it waits for is received or sent, or has lapsed.
 fn waiting_is_handed(both: &mut Both) -> Result<(), Found> {
-    let handed: (u8, u32, &[u8]) = (5, FAR, b"far");
+    let handed: (u8, u64, &[u8]) = (5, FAR, b"far");
     let four = Call::receive(&frame(4, 2000, &[], b""));
     let cases = [
         (4, 2000, four, Some((4, 2000, &b""[..]))),

@@ -3,7 +3,7 @@
 
 use crate::calls::Call;
 use crate::compare::Both;
-use crate::compose::{frame, numbers};
+use crate::compose::{frame, numbers, versions};
 use crate::kept::Kept;
 use crate::second::{Answer, Test};
 use crate::side::Found;
@@ -12,7 +12,7 @@ use crate::side::Found;
 pub type Expected = (u8, bool, usize);
 
 /// Entries of a frame, or marks of a record: panel and deadline.
-pub type Entries<'entries> = &'entries [(u8, u32)];
+pub type Entries<'entries> = &'entries [(u8, u64)];
 
 pub fn run(both: &mut Both) -> Result<(), Found> {
     written_out(both)?;
@@ -27,7 +27,7 @@ pub fn run(both: &mut Both) -> Result<(), Found> {
 }
 
 /// Panel 0 at this time, with these marks.
-pub fn panel(time: u32, marks: Entries) -> Kept {
+pub fn panel(time: u64, marks: Entries) -> Kept {
     Kept {
         high: highest(marks),
         marks: numbers(marks),
@@ -36,7 +36,7 @@ pub fn panel(time: u32, marks: Entries) -> Kept {
 }
 
 /// The highest of these entries, 0 for none.
-pub fn highest(entries: Entries) -> u32 {
+pub fn highest(entries: Entries) -> u64 {
     entries.iter().map(|(_, entry)| *entry).max().unwrap_or(0)
 }
 
@@ -54,14 +54,20 @@ fn zero_with(frames: Vec<Vec<u8>>) -> Kept {
     }
 }
 
-/// A trace on this record answers as expected. A receive is then made too, and with it the trace
-/// once more.
+/// A trace of a frame on this record answers as expected, in each version that has room for it.
 pub fn answers(
     both: &mut Both,
     kept: &Kept,
-    bytes: &[u8],
+    frame: &[u8],
     expected: Expected,
 ) -> Result<(), Found> {
+    let mut versions = versions(frame).into_iter();
+    versions.try_for_each(|bytes| traced(both, kept, &bytes, expected))
+}
+
+/// A trace of these bytes on this record answers as expected. A receive is then made too, and with
+/// it the trace once more.
+pub fn traced(both: &mut Both, kept: &Kept, bytes: &[u8], expected: Expected) -> Result<(), Found> {
     let (number, ready, visited) = expected;
     let expected = Answer {
         number,
@@ -87,10 +93,10 @@ fn each(both: &mut Both, kept: &Kept, cases: &[(Entries, Expected)]) -> Result<(
 
 /// The bytes of a frame with entries of panels 3, 7 and 9: the mask is 8 + 128 + 512.
 fn written_out(both: &mut Both) -> Result<(), Found> {
-    let mut bytes = *b"\x44\x52\x59\0\x01\x05\0\0\0\x64\0\0\0\0\0\0\x02\x88\
-        \0\0\0\x3c\0\0\0\x46\0\0\0\x5a\0";
+    let mut bytes = *b"\x44\x52\x59\0\x02\x05\0\0\0\0\0\0\0\x64\0\0\0\0\0\0\x02\x88\
+        \0\0\0\0\0\0\0\x3c\0\0\0\0\0\0\0\x46\0\0\0\0\0\0\0\x5a\0";
     answers(both, &zero(), &bytes, (0, true, 3))?;
-    bytes[25] = 0x47;
+    bytes[37] = 0x47;
     answers(both, &zero(), &bytes, (0, false, 2))
 }
 
@@ -131,7 +137,7 @@ fn ends_of_the_mask(both: &mut Both) -> Result<(), Found> {
 
 /// 64 entries and 63, all of them met, or all but one.
 fn long_masks(both: &mut Both) -> Result<(), Found> {
-    let entries: Vec<(u8, u32)> = (0..64).map(|panel| (panel, 60)).collect();
+    let entries: Vec<(u8, u64)> = (0..64).map(|panel| (panel, 60)).collect();
     let all_met = panel(50, &entries);
     let cases: &[(Entries, Expected)] = &[
         (&entries, (0, true, 64)),
@@ -147,32 +153,41 @@ fn long_masks(both: &mut Both) -> Result<(), Found> {
     Ok(())
 }
 
-/// Bytes that read as no message, for each of the reading's numbers.
+/// Bytes that read as no message, for each of the reading's numbers, in both versions.
 fn unreadable(both: &mut Both) -> Result<(), Found> {
-    let whole = frame(5, 100, &[(3, 60), (7, 70)], b"up");
+    let whole = versions(&frame(5, 100, &[(3, 60), (7, 70)], b"up"));
+    let broken = Kept { own: 64, ..zero() };
+    for (whole, width) in whole.iter().zip([4, 8]) {
+        for (number, bytes) in unreadable_like(whole, width) {
+            traced(both, &zero(), &bytes, (number, false, 0))?;
+            traced(both, &broken, &bytes, (26, false, 0))?;
+        }
+    }
+    Ok(())
+}
+
+/// A frame with two entries, and deadlines and entries of so many bytes: damaged, with the number
+/// that it is turned down with.
+fn unreadable_like(whole: &[u8], width: usize) -> [(u8, Vec<u8>); 10] {
     let changed = |place: usize, byte: u8| {
-        let mut bytes = whole.clone();
+        let mut bytes = whole.to_vec();
         bytes[place] = byte;
         bytes
     };
-    let frames = [
+    let entries_at = 14 + width;
+    let length_at = entries_at + 2 * width;
+    [
         (1, Vec::new()),
-        (1, whole[..18].to_vec()),
-        (1, whole[..28].to_vec()),
+        (1, whole[..entries_at].to_vec()),
+        (1, whole[..whole.len() - 1].to_vec()),
         (2, changed(0, 0x45)),
-        (3, changed(4, 2)),
+        (3, changed(4, 3)),
         (4, changed(5, 64)),
-        (5, changed(9, 0)),
-        (6, changed(25, 100)),
-        (7, changed(26, 33)),
-        (8, [&whole[..], b"!"].concat()),
-    ];
-    let broken = Kept { own: 64, ..zero() };
-    for (number, bytes) in frames {
-        answers(both, &zero(), &bytes, (number, false, 0))?;
-        answers(both, &broken, &bytes, (26, false, 0))?;
-    }
-    Ok(())
+        (5, changed(5 + width, 0)),
+        (6, changed(length_at - 1, 100)),
+        (7, changed(length_at, 33)),
+        (8, [whole, b"!"].concat()),
+    ]
 }
 
 /// A broken record has marks and a time too.
@@ -206,7 +221,7 @@ fn broken(both: &mut Both) -> Result<(), Found> {
 /// deadline.
 fn refused(both: &mut Both) -> Result<(), Found> {
     let kept = panel(50, &[(0, 45), (3, 60), (7, 70)]);
-    let cases: &[(u8, u32, Entries, Expected)] = &[
+    let cases: &[(u8, u64, Entries, Expected)] = &[
         (0, 100, &[(3, 60), (4, 50), (7, 71)], (20, false, 2)),
         (0, 100, &[(3, 60), (7, 70)], (20, true, 2)),
         (0, 45, &[(3, 44)], (20, true, 1)),
@@ -247,7 +262,7 @@ fn waiting(both: &mut Both) -> Result<(), Found> {
 
 /// 23 where 32 are waiting and the message is not ready; with 31 there is a place.
 fn full(both: &mut Both) -> Result<(), Found> {
-    let wait = |many: u32| {
+    let wait = |many: u64| {
         let frames = (0..many).map(|more| frame(5, 200 + more, &[(4, 55)], b""));
         zero_with(frames.collect())
     };

@@ -10,8 +10,8 @@ use std::collections::BTreeMap;
 #[derive(Default)]
 pub struct Message {
     pub source: u8,
-    pub deadline: u32,
-    pub entries: Vec<(u8, u32)>,
+    pub deadline: u64,
+    pub entries: Vec<(u8, u64)>,
     pub before: Bits,
 }
 
@@ -49,13 +49,13 @@ impl Floors {
 /// What the words say of one panel. Messages are known by their numbers.
 #[derive(Clone, Default)]
 pub struct At {
-    pub time: u32,
-    pub floor: u32,
+    pub time: u64,
+    pub floor: u64,
     /// The panel's log, and the set of its messages.
     pub log: Vec<usize>,
     pub logged: Bits,
     /// The largest deadline in the log from each source.
-    last: BTreeMap<u8, u32>,
+    last: BTreeMap<u8, u64>,
     /// The messages of the log and all before them in cause.
     pub past: Bits,
     pub sent: Bits,
@@ -68,20 +68,20 @@ pub struct At {
 
 impl At {
     /// Lapsed at this panel: below the time, or at most the floor.
-    pub fn lapsed(&self, deadline: u32) -> bool {
+    pub fn lapsed(&self, deadline: u64) -> bool {
         deadline < self.time || deadline <= self.floor
     }
 
     /// Whether the log holds a message of this panel with this deadline or a later one.
-    fn reached(&self, (panel, entry): (u8, u32)) -> bool {
+    fn reached(&self, (panel, entry): (u8, u64)) -> bool {
         self.last.get(&panel).is_some_and(|last| *last >= entry)
     }
 
     /// A message of this name was refused with 21: by the floor alone, if its deadline is not below
     /// the time, and the log has not reached it.
-    pub fn refused(&mut self, name: Option<(u8, u32)>) {
-        let by_floor = name.filter(|name| name.1 >= self.time && !self.reached(*name));
-        self.floors.refused += u64::from(by_floor.is_some());
+    pub fn refused(&mut self, name: (u8, u64)) {
+        let by_floor = name.1 >= self.time && !self.reached(name);
+        self.floors.refused += u64::from(by_floor);
     }
 
     pub fn take(&mut self, number: usize) {
@@ -94,7 +94,7 @@ impl At {
     }
 
     /// A clock call set the time. What waits and has lapsed then is dropped.
-    pub fn clock(&mut self, reading: u32, messages: &[Message]) {
+    pub fn clock(&mut self, reading: u64, messages: &[Message]) {
         self.time = reading;
         let (dropped, waiting) = std::mem::take(&mut self.waiting)
             .into_iter()
@@ -107,7 +107,7 @@ impl At {
         }
     }
 
-    pub fn set_back(&mut self, reading: u32) {
+    pub fn set_back(&mut self, reading: u64) {
         match reading < self.time {
             true => self.floors.lowered += 1,
             false => self.floors.left += 1,
@@ -121,10 +121,10 @@ impl At {
         let entries = message.entries.iter().copied();
         let missing = entries.filter(|entry| !self.reached(*entry));
         let missed = missing.filter(|(_, entry)| self.lapsed(*entry));
-        let missed: Vec<u32> = missed.map(|(_, entry)| entry).collect();
+        let missed: Vec<u64> = missed.map(|(_, entry)| entry).collect();
         let by_floor = missed.iter().filter(|entry| **entry >= self.time);
         self.floors.met += by_floor.count() as u64;
-        self.floor = missed.into_iter().fold(self.floor, u32::max);
+        self.floor = missed.into_iter().fold(self.floor, u64::max);
         let last = self.last.entry(message.source).or_default();
         *last = message.deadline.max(*last);
         self.log.push(number);

@@ -60,7 +60,7 @@ struct Yard {
     /// How many of the frames were sent before a message can have lapsed.
     early: usize,
     /// The contacts so far, and the messages that had to wait.
-    contacts: u32,
+    contacts: u64,
     waited: usize,
     output: [u8; OUTPUT],
 }
@@ -96,8 +96,8 @@ impl Yard {
     }
 
     /// How many seconds have gone by: each panel is given frames once a minute, on an average.
-    fn time(&self) -> u32 {
-        self.contacts * 60 / self.members.len() as u32
+    fn time(&self) -> u64 {
+        self.contacts * 60 / self.members.len() as u64
     }
 
     /// Takes down what a call wrote. A call is refused here only where the waiting list is full.
@@ -112,24 +112,24 @@ impl Yard {
         }
     }
 
-    fn clock(&mut self, place: usize, time: u32) -> Result<(), Found> {
+    fn clock(&mut self, place: usize, time: u64) -> Result<(), Found> {
         let panel = &mut self.members[place].panel;
         let answer = panel.clock(time, &mut self.output);
         self.after(place, answer)
     }
 
-    fn send(&mut self, place: usize, time: u32) -> Result<(), Found> {
+    fn send(&mut self, place: usize, time: u64) -> Result<(), Found> {
         self.clock(place, time)?;
         let (member, mut frame) = (&mut self.members[place], [0; FRAME]);
         let answer = member.panel.send(&PAYLOAD, 0, &mut self.output, &mut frame);
         member.hold(self.frames.len());
         self.frames.push(frame[..answer.length].to_vec());
-        self.early += usize::from(time < u32::from(DEFAULT_LIFETIME));
+        self.early += usize::from(time < u64::from(DEFAULT_LIFETIME));
         self.after(place, answer)
     }
 
     /// One panel gives another all live frames that it holds and the other lacks. Some are lost.
-    fn contact(&mut self, giver: usize, taker: usize, time: u32) -> Result<(), Found> {
+    fn contact(&mut self, giver: usize, taker: usize, time: u64) -> Result<(), Found> {
         self.contacts += 1;
         let mut random = Random::new(SEED, u64::from(self.contacts));
         let frames = &self.frames;

@@ -32,10 +32,10 @@ impl<S: Side> Farm<'_, S> {
 
     /// A recent deadline or the second after it, some seconds more than the right reading, or any
     /// time to come, but at a panel that keeps no floor, which would stay deaf.
-    fn wrong_reading(&mut self, place: usize, right: u32) -> u32 {
+    fn wrong_reading(&mut self, place: usize, right: u64) -> u64 {
         let more = match self.random.below(8) {
             0 if self.members[place].keeps_floor => self.random.any_size(),
-            1 | 2 => self.random.between(1, 40) as u32,
+            1 | 2 => self.random.between(1, 40) as u64,
             _ => self.recent_edge().saturating_sub(right),
         };
         right.saturating_add(more)
@@ -43,24 +43,24 @@ impl<S: Side> Farm<'_, S> {
 
     /// The deadline of a frame that was sent not long ago, or the second after it; 0 if there is
     /// none.
-    fn recent_edge(&mut self) -> u32 {
+    fn recent_edge(&mut self) -> u64 {
         let recent = self.frames.len().min(30);
         if recent == 0 {
             return 0;
         }
         let frame = self.frames.len() - 1 - self.random.below(recent);
         let deadline = compose::deadline_of(&self.frames[frame]);
-        deadline.saturating_add(self.random.below(2) as u32)
+        deadline.saturating_add(self.random.below(2) as u64)
     }
 
     /// A clock is set back to about what it should show, if its panel keeps a floor. Then frames
     /// come that are alive now, those again too that were refused or dropped meanwhile.
-    fn put_right(&mut self, place: usize, right: u32) -> Result<(), Found> {
+    fn put_right(&mut self, place: usize, right: u64) -> Result<(), Found> {
         let reading = match self.random.below(20) {
             0 => 0,
-            1 => u32::MAX,
+            1 => u64::MAX,
             2..=4 => self.recent_edge(),
-            _ => right.saturating_add(self.random.below(3) as u32),
+            _ => right.saturating_add(self.random.below(3) as u64),
         };
         let call = self.members[place].set_back(reading);
         self.call(place, &call)?;
@@ -74,10 +74,9 @@ impl<S: Side> Farm<'_, S> {
     fn come_again(&mut self, place: usize) -> Result<(), Found> {
         let member = &self.members[place];
         let alive = |frame: &usize| {
-            let bytes = &self.frames[*frame];
-            let deadline = compose::deadline_of(bytes);
+            let (source, deadline) = compose::name_of(&self.frames[*frame]);
             let refused = deadline < member.time || member.far_ahead(deadline);
-            bytes[5] != member.number && !refused
+            source != member.number && !refused
         };
         let mut frames: Vec<usize> = (0..self.frames.len()).filter(alive).collect();
         self.random.shuffle(&mut frames);

@@ -19,7 +19,7 @@ pub struct Trace {
 #[repr(C)]
 #[derive(Clone, Copy, Debug, Default, PartialEq, Eq)]
 pub struct LogFields {
-    pub deadline: u32,
+    pub deadline: u64,
     pub source: u8,
     pub length: u8,
 }
@@ -37,29 +37,29 @@ pub struct BundleStep {
 #[rustfmt::skip]
 #[link(name = "panel", kind = "static")]
 extern "C" {
-    pub fn panel_fresh_parts(number: u8, own: *mut u8, time: *mut u32, high: *mut u32,
-        count: *mut usize, marks: *mut u32, barrier: *mut u32, slots: *mut u8,
-        floor: *mut u32) -> u8;
-    pub fn panel_send_parts(own: u8, time: u32, high: *mut u32, count: *mut usize,
-        marks: *mut u32, barrier: *mut u32, slots: *mut u8, floor: *mut u32, payload: *const u8,
+    pub fn panel_fresh_parts(number: u8, own: *mut u8, time: *mut u64, high: *mut u64,
+        count: *mut usize, marks: *mut u64, barrier: *mut u64, slots: *mut u8,
+        floor: *mut u64) -> u8;
+    pub fn panel_send_parts(own: u8, time: u64, high: *mut u64, count: *mut usize,
+        marks: *mut u64, barrier: *mut u64, slots: *mut u8, floor: *mut u64, payload: *const u8,
         payload_length: usize, lifetime: u16, output: *mut u8, output_length: usize,
         frame: *mut u8, frame_length: usize) -> PartsAnswer;
-    pub fn panel_beacon_parts(own: u8, time: u32, high: *mut u32, count: *mut usize,
-        marks: *mut u32, barrier: *mut u32, slots: *mut u8, floor: *mut u32, payload: *const u8,
+    pub fn panel_beacon_parts(own: u8, time: u64, high: *mut u64, count: *mut usize,
+        marks: *mut u64, barrier: *mut u64, slots: *mut u8, floor: *mut u64, payload: *const u8,
         payload_length: usize, output: *mut u8, output_length: usize, frame: *mut u8,
         frame_length: usize) -> PartsAnswer;
-    pub fn panel_receive_parts(own: u8, time: u32, high: *mut u32, count: *mut usize,
-        marks: *mut u32, barrier: *mut u32, slots: *mut u8, floor: *mut u32, frame: *const u8,
+    pub fn panel_receive_parts(own: u8, time: u64, high: *mut u64, count: *mut usize,
+        marks: *mut u64, barrier: *mut u64, slots: *mut u8, floor: *mut u64, frame: *const u8,
         frame_length: usize, output: *mut u8, output_length: usize) -> PartsAnswer;
-    pub fn panel_trace_parts(own: u8, time: u32, high: u32, count: usize, marks: *const u32,
-        barrier: *const u32, slots: *const u8, floor: u32, frame: *const u8,
+    pub fn panel_trace_parts(own: u8, time: u64, high: u64, count: usize, marks: *const u64,
+        barrier: *const u64, slots: *const u8, floor: u64, frame: *const u8,
         frame_length: usize) -> Trace;
-    pub fn panel_clock_parts(own: u8, time: *mut u32, high: *mut u32, count: *mut usize,
-        marks: *mut u32, barrier: *mut u32, slots: *mut u8, floor: *mut u32, reading: u32,
+    pub fn panel_clock_parts(own: u8, time: *mut u64, high: *mut u64, count: *mut usize,
+        marks: *mut u64, barrier: *mut u64, slots: *mut u8, floor: *mut u64, reading: u64,
         output: *mut u8, output_length: usize) -> PartsAnswer;
-    pub fn panel_set_back_parts(own: u8, time: *mut u32, high: u32, count: usize,
-        marks: *const u32, barrier: *const u32, slots: *const u8, floor: u32,
-        reading: u32) -> u8;
+    pub fn panel_set_back_parts(own: u8, time: *mut u64, high: u64, count: usize,
+        marks: *const u64, barrier: *const u64, slots: *const u8, floor: u64,
+        reading: u64) -> u8;
     #[link_name = "frame_check"]
     fn panel_frame_check(frame: *const u8, length: usize) -> u8;
     fn panel_log_fields(log: *const u8, length: usize, index: usize) -> LogFields;

@@ -125,7 +125,7 @@ impl Record {
         }
     }
 
-    pub fn clock(&mut self, reading: u32, output: &mut [u8]) -> Answer {
+    pub fn clock(&mut self, reading: u64, output: &mut [u8]) -> Answer {
         answer(unsafe {
             panel_clock_parts(
                 self.own,
@@ -143,7 +143,7 @@ impl Record {
         })
     }
 
-    pub fn set_back(&mut self, reading: u32) -> Answer {
+    pub fn set_back(&mut self, reading: u64) -> Answer {
         let number = unsafe {
             panel_set_back_parts(
                 self.own,

@@ -5,4 +5,4 @@ mod calls;
 mod record;
 
 pub use archive::{bundle_step, frame_check, log_fields};
-pub use record::{Record, LIKE_A_SLOT};
+pub use record::{Record, LIKE_A_SLOT, SLOT};

@@ -3,14 +3,15 @@
 use crate::compose;
 use crate::kept::Kept;
 use crate::random::Random;
-use std::mem::{offset_of, size_of};
+use crate::second::{FRAME, WAITING};
+use std::mem::{offset_of, size_of, size_of_val};
 use std::slice;
 
-const WAITING: usize = 32;
-const SLOT: usize = 309;
+/// Bytes of a slot: the length of a frame, then the frame.
+pub const SLOT: usize = 2 + FRAME;
 const SLOTS: usize = WAITING * SLOT;
 /// Bytes around the record that no call may touch.
-const MARGIN: usize = 320;
+const MARGIN: usize = 576;
 
 /// The record, all bytes of it named, between two margins.
 #[repr(C)]
@@ -18,31 +19,29 @@ const MARGIN: usize = 320;
 pub struct Record {
     margin_before: [u8; MARGIN],
     pub own: u8,
-    between_own_and_time: [u8; 3],
-    pub time: u32,
-    pub high: u32,
-    between_high_and_count: [u8; 4],
+    between_own_and_time: [u8; 7],
+    pub time: u64,
+    pub high: u64,
     pub count: usize,
-    pub marks: [u32; 64],
-    pub barrier: [u32; 64],
+    pub marks: [u64; 64],
+    pub barrier: [u64; 64],
     pub slots: [u8; SLOTS],
-    pub floor: u32,
-    behind_floor: [u8; 4],
+    pub floor: u64,
     margin_behind: [u8; MARGIN],
 }
 
-const _: () = assert!(offset_of!(Record, time) == MARGIN + 4);
-const _: () = assert!(offset_of!(Record, high) == MARGIN + 8);
-const _: () = assert!(offset_of!(Record, count) == MARGIN + 16);
-const _: () = assert!(offset_of!(Record, marks) == MARGIN + 24);
-const _: () = assert!(offset_of!(Record, barrier) == MARGIN + 280);
-const _: () = assert!(offset_of!(Record, slots) == MARGIN + 536);
-const _: () = assert!(offset_of!(Record, floor) == MARGIN + 10_424);
-const _: () = assert!(size_of::<Record>() == 2 * MARGIN + 10_432);
+const _: () = assert!(offset_of!(Record, time) == MARGIN + 8);
+const _: () = assert!(offset_of!(Record, high) == MARGIN + 16);
+const _: () = assert!(offset_of!(Record, count) == MARGIN + 24);
+const _: () = assert!(offset_of!(Record, marks) == MARGIN + 32);
+const _: () = assert!(offset_of!(Record, barrier) == MARGIN + 544);
+const _: () = assert!(offset_of!(Record, slots) == MARGIN + 1056);
+const _: () = assert!(offset_of!(Record, floor) == MARGIN + 19_264);
+const _: () = assert!(size_of::<Record>() == 2 * MARGIN + 19_272);
 
 /// The floor whose bytes, where a slot behind the last one would be, are those of a length and of a
-/// frame's start. A kept record has the rest of that frame behind it.
-pub const LIKE_A_SLOT: u32 = u32::from_ne_bytes([0, 19, 0x44, 0x52]);
+/// frame's start, up to the source. A kept record has the rest of that frame behind it.
+pub const LIKE_A_SLOT: u64 = u64::from_ne_bytes([0, 23, 0x44, 0x52, 0x59, 0, 2, 1]);
 
 impl Record {
     /// A record of random bytes.
@@ -50,16 +49,14 @@ impl Record {
         let mut record = Box::new(Record {
             margin_before: [0; MARGIN],
             own: 0,
-            between_own_and_time: [0; 3],
+            between_own_and_time: [0; 7],
             time: 0,
             high: 0,
-            between_high_and_count: [0; 4],
             count: 0,
             marks: [0; 64],
             barrier: [0; 64],
             slots: [0; SLOTS],
             floor: 0,
-            behind_floor: [0; 4],
             margin_behind: [0; MARGIN],
         });
         random.fill(record.bytes_mut());
@@ -72,16 +69,15 @@ impl Record {
     pub fn kept(kept: &Kept, random: &mut Random) -> Box<Record> {
         let mut record = Record::random(random);
         let one_more = compose::frame(1, 9, &[], b"");
-        let (near, far) = one_more[2..].split_at(4);
-        record.behind_floor.copy_from_slice(near);
-        record.margin_behind[..far.len()].copy_from_slice(far);
+        let rest = &one_more[size_of_val(&record.floor) - 2..];
+        record.margin_behind[..rest.len()].copy_from_slice(rest);
         (record.own, record.time, record.high) = (kept.own, kept.time, kept.high);
         (record.marks, record.barrier) = (kept.marks, kept.barrier);
         record.floor = kept.floor;
         record.count = kept.count;
         for (slot, frame) in record.slots.chunks_mut(SLOT).zip(&kept.frames) {
             slot[..2].copy_from_slice(&(frame.len() as u16).to_be_bytes());
-            let room = frame.len().min(SLOT - 2);
+            let room = frame.len().min(FRAME);
             slot[2..2 + room].copy_from_slice(&frame[..room]);
         }
         record
@@ -97,13 +93,16 @@ impl Record {
         unsafe { slice::from_raw_parts_mut((self as *mut Record).cast(), size_of::<Record>()) }
     }
 
+    /// Takes over every byte of another record, without a copy on the way.
+    pub fn copy_from(&mut self, other: &Record) {
+        self.bytes_mut().copy_from_slice(other.bytes());
+    }
+
     /// The bytes that belong to no field.
-    pub fn outside(&self) -> [&[u8]; 5] {
+    pub fn outside(&self) -> [&[u8]; 3] {
         [
             &self.margin_before,
             &self.between_own_and_time,
-            &self.between_high_and_count,
-            &self.behind_floor,
             &self.margin_behind,
         ]
     }
@@ -112,7 +111,7 @@ impl Record {
     pub fn waiting(&self, place: usize) -> &[u8] {
         let slot = &self.slots[place * SLOT..(place + 1) * SLOT];
         let length = usize::from(u16::from_be_bytes([slot[0], slot[1]]));
-        &slot[2..2 + length.min(SLOT - 2)]
+        &slot[2..2 + length.min(FRAME)]
     }
 
     /// What stands at this place of `bytes`.
@@ -120,16 +119,11 @@ impl Record {
         let slots = offset_of!(Record, slots);
         let fields = [
             (offset_of!(Record, margin_behind), "the margin behind"),
-            (offset_of!(Record, behind_floor), "behind floor"),
             (offset_of!(Record, floor), "floor"),
             (slots, "slots"),
             (offset_of!(Record, barrier), "barrier"),
             (offset_of!(Record, marks), "marks"),
             (offset_of!(Record, count), "count"),
-            (
-                offset_of!(Record, between_high_and_count),
-                "between high and count",
-            ),
             (offset_of!(Record, high), "high"),
             (offset_of!(Record, time), "time"),
             (
@@ -144,7 +138,7 @@ impl Record {
         let within = place - start;
         match name {
             "slots" => format!("slot {} byte {}", within / SLOT, within % SLOT),
-            "marks" | "barrier" => format!("{name} {} byte {}", within / 4, within % 4),
+            "marks" | "barrier" => format!("{name} {} byte {}", within / 8, within % 8),
             _ => format!("{name} byte {within}"),
         }
     }

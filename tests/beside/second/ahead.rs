@@ -6,18 +6,18 @@
 use super::calls::Checks;
 use super::delivery::raise;
 use super::faults::{planted, which, Fault};
-use super::message::number;
+use super::version::{lower, Layout, Version};
 use super::{Message, Panel, FARTHEST_AHEAD};
 
 impl Panel {
     /// The last deadline that is taken, without wrapping: it may be one that no frame can carry.
-    fn farthest(&self) -> u64 {
-        u64::from(self.time) + u64::from(FARTHEST_AHEAD)
+    fn farthest(&self) -> u128 {
+        u128::from(self.time) + u128::from(FARTHEST_AHEAD)
     }
 
     /// Whether a deadline is far ahead.
-    pub fn far_ahead(&self, deadline: u32) -> bool {
-        u64::from(deadline) > self.farthest()
+    pub fn far_ahead(&self, deadline: u64) -> bool {
+        u128::from(deadline) > self.farthest()
     }
 
     /// Whether 32 applies to a message: whether its deadline is far ahead, but for planted faults.
@@ -27,26 +27,27 @@ impl Panel {
         } = *self;
         let deadline = message.deadline;
         let far = self.far_ahead(deadline);
-        let above = |sum: u64| u64::from(deadline) > sum;
+        let above = |sum: u128| u128::from(deadline) > sum;
+        let ahead_of = |time: u64, seconds: u64| above(u128::from(time) + u128::from(seconds));
         let distance = deadline.wrapping_sub(time);
         match which() {
             Some(Fault::FarAheadTaken | Fault::FarAheadWaits) => false,
             Some(Fault::FarthestAheadRefused) => above(self.farthest() - 1),
             Some(Fault::OneSecondFartherTaken) => above(self.farthest() + 1),
-            Some(Fault::ThirteenDaysAhead) => above(u64::from(time) + 13 * 24 * 60 * 60),
-            Some(Fault::FarthestAheadInMinutes) => {
-                above(u64::from(time) + 60 * u64::from(FARTHEST_AHEAD))
-            }
-            Some(Fault::FarAheadOfHigh) => above(u64::from(high) + u64::from(FARTHEST_AHEAD)),
-            Some(Fault::FarAheadOfFloor) => {
-                above(u64::from(time.max(floor)) + u64::from(FARTHEST_AHEAD))
-            }
+            Some(Fault::ThirteenDaysAhead) => ahead_of(time, 13 * 24 * 60 * 60),
+            Some(Fault::FarthestAheadInMinutes) => ahead_of(time, 60 * FARTHEST_AHEAD),
+            Some(Fault::FarAheadOfHigh) => ahead_of(high, FARTHEST_AHEAD),
+            Some(Fault::FarAheadOfFloor) => ahead_of(time.max(floor), FARTHEST_AHEAD),
             Some(Fault::FarthestAheadWraps) => deadline > time.wrapping_add(FARTHEST_AHEAD),
+            Some(Fault::FarthestAheadIn32Bits) => {
+                deadline > lower(time.wrapping_add(FARTHEST_AHEAD))
+            }
             Some(Fault::LastDeadlineFarAhead) => {
                 deadline >= time.saturating_add(FARTHEST_AHEAD + 1)
             }
             Some(Fault::LapsedIsFarAhead) => distance > FARTHEST_AHEAD,
-            Some(Fault::DistanceWithASign) => distance as i32 > FARTHEST_AHEAD as i32,
+            Some(Fault::DistanceWithASign) => distance as i64 > FARTHEST_AHEAD as i64,
+            Some(Fault::DistanceIn32Bits) => lower(distance) > FARTHEST_AHEAD,
             Some(Fault::FarAheadByTheEntries) => {
                 let mut entries = message.predecessors.values();
                 entries.any(|entry| self.far_ahead(*entry))
@@ -66,7 +67,8 @@ impl Panel {
                 received && self.far_ahead(message.deadline) && !self.broken()
             }
             (Some(Fault::FarAheadBeforeEntries), Err(6..=8)) => {
-                self.far_ahead(number(&frame[6..10]) as u32) && !self.broken()
+                let layout = Layout::of(Version::of(frame).unwrap_or(Version::Two));
+                self.far_ahead(layout.deadline(frame)) && !self.broken()
             }
             _ => false,
         }
@@ -110,7 +112,7 @@ impl Panel {
         if planted(fault) {
             let farthest = self.farthest();
             self.pending
-                .retain(|pending| u64::from(pending.message.deadline) <= farthest);
+                .retain(|pending| u128::from(pending.message.deadline) <= farthest);
         }
     }
 
@@ -120,9 +122,9 @@ impl Panel {
         match which() {
             Some(Fault::FarAheadMarksForgotten) => self
                 .delivered
-                .retain(|_, mark| u64::from(*mark) <= farthest),
+                .retain(|_, mark| u128::from(*mark) <= farthest),
             Some(Fault::FarAheadHighLowered) => {
-                self.high = u64::from(self.high).min(farthest) as u32
+                self.high = u128::from(self.high).min(farthest) as u64
             }
             Some(Fault::ClockResetsFloor) => self.floor = 0,
             _ => self.drop_far_ahead(Fault::ClockDropsFarAhead),
@@ -130,7 +132,7 @@ impl Panel {
     }
 
     /// Whether a planted fault refuses a send or a beacon with 32.
-    pub fn wrongly_refused(&self, beacon: bool, deadline: u64) -> bool {
+    pub fn wrongly_refused(&self, beacon: bool, deadline: u128) -> bool {
         let fault = match beacon {
             true => Fault::BeaconRefusedFarAhead,
             false => Fault::SendRefusedFarAhead,
@@ -139,10 +141,10 @@ impl Panel {
     }
 
     /// The deadline of a send, which is the first of these but for planted faults.
-    pub fn mistaken_deadline(&self, deadline: u64, by_clock: u64) -> u64 {
+    pub fn mistaken_deadline(&self, deadline: u128, by_clock: u128) -> u128 {
         match which() {
             Some(Fault::SendStopsFarAhead) => deadline.min(self.farthest()),
-            Some(Fault::SendAboveFloor) => deadline.max(u64::from(self.floor) + 1),
+            Some(Fault::SendAboveFloor) => deadline.max(u128::from(self.floor) + 1),
             Some(Fault::FarAheadHighLeftOut) if deadline > self.farthest() => by_clock,
             _ => deadline,
         }

@@ -6,6 +6,7 @@ use super::delivery::raise;
 use super::faults::{planted, which, Fault};
 use super::floor::{During, Of};
 use super::log::Log;
+use super::version::{cut, lower};
 use super::{accepted, first, refused, Answer, Message, Panel, OUTPUT, WAITING};
 
 /// The checks of the state, in their order: the number, and whether it applies.
@@ -13,7 +14,12 @@ pub type Checks = [(u8, bool); 5];
 
 /// Whether an output is too short.
 pub fn short(output: &[u8]) -> bool {
-    output.len() < OUTPUT - usize::from(planted(Fault::OutputOneByteShortTaken))
+    let least = match which() {
+        Some(Fault::OutputOneByteShortTaken) => OUTPUT - 1,
+        Some(Fault::OutputAsItWas) => 1254,
+        _ => OUTPUT,
+    };
+    output.len() < least
 }
 
 impl Panel {
@@ -62,11 +68,12 @@ impl Panel {
     }
 
     /// Sets the time.
-    pub fn clock(&mut self, reading: u32, output: &mut [u8]) -> Answer {
+    pub fn clock(&mut self, reading: u64, output: &mut [u8]) -> Answer {
         let back = match which() {
             Some(Fault::SameReadingRefused) => reading <= self.time,
             Some(Fault::ClockGoesBack) => false,
             Some(Fault::SetBackWithoutFloor) => reading < self.time && self.keeps_floor,
+            Some(Fault::ClockBackIn32Bits) => lower(reading) < lower(self.time),
             _ => reading < self.time,
         };
         match first([(26, self.broken()), (10, short(output)), (25, back)]) {
@@ -88,6 +95,7 @@ impl Panel {
     fn take(&mut self, message: Message, ready: bool, output: &mut [u8]) -> Answer {
         let mut log = Log::new(output);
         self.during = During::Receive;
+        self.take_version_down(&message);
         if planted(Fault::SettledBeforeHanding) {
             self.check_pending_messages(&mut log);
         }
@@ -119,18 +127,26 @@ impl Panel {
     /// Whether the deadline of a message is at most its source's mark.
     pub fn logged(&self, message: &Message) -> bool {
         let mark = self.delivered.get(&message.source).copied().unwrap_or(0);
-        match planted(Fault::LoggedCopyTaken) {
-            true => message.deadline < mark,
-            false => message.deadline <= mark,
+        match which() {
+            Some(Fault::LoggedCopyTaken) => message.deadline < mark,
+            Some(Fault::HadIn32Bits) => lower(message.deadline) <= lower(mark),
+            Some(Fault::LoggedVersionsAreTwo) if self.taken_otherwise(message) => false,
+            _ => message.deadline <= mark,
         }
     }
 
     /// Whether a message is waiting already.
     pub fn waits(&self, message: &Message) -> bool {
-        let waiting = self.pending.iter().any(|pending| {
-            pending.message.source == message.source && pending.message.deadline == message.deadline
+        let same = |one: u64, other: u64| match planted(Fault::WaitingIn32Bits) {
+            true => lower(one) == lower(other),
+            false => one == other,
+        };
+        let mut waiting = self.pending.iter().map(|pending| &pending.message);
+        let waiting = waiting.any(|waiting| {
+            waiting.source == message.source && same(waiting.deadline, message.deadline)
         });
-        waiting && !planted(Fault::WaitingCopyTaken) || self.wrongly_had(message)
+        let two = planted(Fault::WaitingVersionsAreTwo) && self.taken_otherwise(message);
+        waiting && !planted(Fault::WaitingCopyTaken) && !two || self.wrongly_had(message)
     }
 
     /// Why a readable message is turned down because of the state: the checks, in their order.
@@ -153,8 +169,8 @@ impl Panel {
     }
 
     /// Sets the time, drops the lapsed waiting messages and settles.
-    fn set_time(&mut self, reading: u32, output: &mut [u8]) -> Answer {
-        self.time = reading;
+    fn set_time(&mut self, reading: u64, output: &mut [u8]) -> Answer {
+        self.time = cut(reading, Fault::TimeCut);
         self.during = During::Clock;
         let mut log = Log::new(output);
         if planted(Fault::DroppedAfterSettling) {

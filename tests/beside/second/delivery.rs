@@ -4,11 +4,12 @@ use super::faults::{planted, which, Fault};
 use super::floor::{Limits, Of};
 use super::log::Log;
 use super::panel::Pending;
+use super::version::{cut, lower};
 use super::{Barrier, Message, Panel, Test, PANELS};
 use std::cmp::Reverse;
 
 /// The larger of the entry of a panel and this one becomes the entry.
-pub fn raise(entries: &mut Barrier, panel: u8, entry: u32) {
+pub fn raise(entries: &mut Barrier, panel: u8, entry: u64) {
     let raised = entries
         .get(&panel)
         .map_or(entry, |present| entry.max(*present));
@@ -22,13 +23,12 @@ fn expunge_expired_predecessors(left: &mut Barrier, limits: Limits) {
 
 /// Code 6: predecessors that were delivered are struck off.
 fn expunge_delivered_predecessors(left: &mut Barrier, delivered: &Barrier) {
-    let met = |panel: &u8, entry: u32| {
-        delivered
-            .get(panel)
-            .is_some_and(|mark| match planted(Fault::EntryMetByEqualMarkOnly) {
-                true => *mark == entry,
-                false => *mark >= entry,
-            })
+    let met = |panel: &u8, entry: u64| {
+        delivered.get(panel).is_some_and(|mark| match which() {
+            Some(Fault::EntryMetByEqualMarkOnly) => *mark == entry,
+            Some(Fault::MetIn32Bits) => lower(*mark) >= lower(entry),
+            _ => *mark >= entry,
+        })
     };
     left.retain(|panel, entry| !met(panel, *entry));
 }
@@ -89,20 +89,20 @@ impl Panel {
         self.remove_carried(message);
         match planted(Fault::MarkOverwritten) {
             true => _ = self.delivered.insert(source, deadline),
-            false => raise(&mut self.delivered, source, deadline),
+            false => raise(&mut self.delivered, source, cut(deadline, Fault::MarkCut)),
         }
         match planted(Fault::BarrierOverwritten) {
             true => _ = self.barrier.insert(source, deadline),
             false if planted(Fault::BarrierNotRaisedByReceived) && received => {}
             false if planted(Fault::BarrierNotRaisedByOwn) && !received => {}
-            false => raise(&mut self.barrier, source, deadline),
+            false => raise(&mut self.barrier, source, cut(deadline, Fault::BarrierCut)),
         }
         self.change_by_handing(message);
         if planted(Fault::MarkAfterHandingAsked) {
             self.raise_floor(message);
         }
         if !(planted(Fault::HighNotRaisedByReceived) && received) {
-            self.high = self.high.max(deadline);
+            self.high = self.high.max(cut(deadline, Fault::HighCut));
         }
         log.write(message);
         self.forget_dependency(source, deadline);
@@ -110,7 +110,7 @@ impl Panel {
 
     /// Code 4: no pending message waits any longer for this one, nor for an earlier one of its
     /// source.
-    fn forget_dependency(&mut self, source: u8, deadline: u32) {
+    fn forget_dependency(&mut self, source: u8, deadline: u64) {
         for pending in &mut self.pending {
             if pending
                 .left
@@ -174,6 +174,9 @@ impl Panel {
         }
         if planted(Fault::SourceBeforeDeadline) {
             return places.min_by_key(|place| (known(*place).1, known(*place).0));
+        }
+        if planted(Fault::LowestDeadlineIn32Bits) {
+            return places.min_by_key(|place| (lower(known(*place).0), known(*place).1));
         }
         if planted(Fault::LatestInTheListFirst) {
             return places.min_by_key(|place| (known(*place), Reverse(*place)));

@@ -6,6 +6,7 @@
 use super::delivery::raise;
 use super::faults::{planted, which, Fault};
 use super::log::Log;
+use super::version::{cut, lower};
 use super::{accepted, first, refused, Answer, Make, Message, Panel};
 
 /// Whose deadline is asked for. It makes a difference to planted faults only.
@@ -28,21 +29,25 @@ pub enum During {
 /// What decides at a panel whether a deadline has lapsed.
 #[derive(Clone, Copy)]
 pub struct Limits {
-    time: u32,
-    floor: u32,
+    time: u64,
+    floor: u64,
     make: Make,
 }
 
 impl Limits {
     /// Whether a deadline has lapsed: it is below the time or at most the floor.
-    pub fn lapsed(self, of: Of, deadline: u32) -> bool {
+    pub fn lapsed(self, of: Of, deadline: u64) -> bool {
         let at_equal_time = match which() {
             Some(Fault::LapsedAtEqualTime) => of == Of::Received,
             Some(Fault::DroppedAtEqualTime) => of == Of::Waiting,
             Some(Fault::EntryMetAtEqualTime) => of == Of::Entry,
             _ => false,
         };
-        let by_time = deadline < self.time || at_equal_time && deadline == self.time;
+        let below = match planted(Fault::LapsedIn32Bits) {
+            true => lower(deadline) < lower(self.time),
+            false => deadline < self.time,
+        };
+        let by_time = below || at_equal_time && deadline == self.time;
         let by_floor = self.asks_floor(of) && self.at_most_floor(deadline);
         match planted(Fault::LapsedByBoth) {
             true => by_time && by_floor,
@@ -62,13 +67,14 @@ impl Limits {
         }
     }
 
-    fn at_most_floor(self, deadline: u32) -> bool {
+    fn at_most_floor(self, deadline: u64) -> bool {
         let floor = self.floor;
         match which() {
             Some(Fault::FloorItselfAlive) => deadline < floor,
             Some(Fault::OneAboveFloorLapsed) => deadline <= floor.saturating_add(1),
             Some(Fault::FloorPlusOneWraps) => deadline < floor.wrapping_add(1),
-            Some(Fault::FloorWithASign) => deadline as i32 <= floor as i32,
+            Some(Fault::FloorWithASign) => deadline as i64 <= floor as i64,
+            Some(Fault::FloorIn32Bits) => lower(deadline) <= lower(floor),
             _ => deadline <= floor,
         }
     }
@@ -97,7 +103,7 @@ impl Panel {
     }
 
     /// Whether an entry has lapsed.
-    pub fn lapsed(&self, entry: u32) -> bool {
+    pub fn lapsed(&self, entry: u64) -> bool {
         self.limits().lapsed(Of::Entry, entry)
     }
 
@@ -120,7 +126,7 @@ impl Panel {
         let to = match which() {
             Some(Fault::FloorRisesToDeadline) => message.deadline,
             Some(Fault::FloorRisesToTime) => self.time.saturating_sub(1).max(*to),
-            _ => *to,
+            _ => cut(*to, Fault::FloorCut),
         };
         for (panel, entry) in missed {
             raise(&mut self.largest_missed, panel, entry);
@@ -132,7 +138,7 @@ impl Panel {
     }
 
     /// Whether an entry had lapsed, and the mark of its panel had not reached it.
-    fn missed(&self, panel: u8, entry: u32) -> bool {
+    fn missed(&self, panel: u8, entry: u64) -> bool {
         let mark = self.delivered.get(&panel).copied().unwrap_or(0);
         let (lapsed, reached) = (self.lapsed(entry), mark >= entry);
         match which() {
@@ -164,7 +170,7 @@ impl Panel {
 
     /// Sets the time back, for service: "sets the time to the lower of its own and the reading, and
     /// hands and drops nothing".
-    pub fn set_back(&mut self, reading: u32) -> Answer {
+    pub fn set_back(&mut self, reading: u64) -> Answer {
         let wrongly_refused = match which() {
             Some(Fault::SetBackRefusesHigher) => reading > self.time,
             Some(Fault::SetBackRefusesLower) => reading < self.time,
@@ -182,7 +188,7 @@ impl Panel {
 
     /// Lowers the time. The source strikes predecessors off for good as they expire, since its
     /// clocks are never set back: what is left of them is found anew here.
-    fn lower_time(&mut self, reading: u32) -> Answer {
+    fn lower_time(&mut self, reading: u64) -> Answer {
         let before = self.time;
         self.time = match which() {
             Some(Fault::SetBackRaisesTime) => reading,
@@ -191,7 +197,7 @@ impl Panel {
                 before.min(reading.max(self.floor.saturating_add(1)))
             }
             Some(Fault::OldMakeNotSetBack) if self.make == Make::Old => before,
-            _ => before.min(reading),
+            _ => before.min(cut(reading, Fault::SetBackCut)),
         };
         if !planted(Fault::StruckOffForGood) {
             let messages = self.pending.iter().map(|pending| &pending.message);
@@ -207,7 +213,7 @@ impl Panel {
     }
 
     /// What planted faults change by a set back, before which this was the time.
-    fn change_by_set_back(&mut self, before: u32, reading: u32) {
+    fn change_by_set_back(&mut self, before: u64, reading: u64) {
         let limits = self.limits();
         match which() {
             Some(Fault::SetBackDropsLapsed) => self

@@ -2,7 +2,7 @@
 
 use super::bundle::{step, Kind};
 use super::faults::{planted, Fault};
-use super::log::fields;
+use super::log::{fields, PAYLOAD_AT};
 use super::{fresh, Make, LOG_RECORD, OUTPUT};
 use std::fmt::Write;
 
@@ -17,7 +17,7 @@ pub fn listing(input: &[u8]) -> String {
     }
     let number = u8::from(planted(Fault::ListFeedsPanelOne));
     let mut panel = fresh(number, Make::New).0;
-    panel.time = u32::from(planted(Fault::ListFeedsAtTimeOne));
+    panel.time = u64::from(planted(Fault::ListFeedsAtTimeOne));
     let mut text = String::new();
     let mut place = 0;
     for number in u32::from(!planted(Fault::ListCountsFromZero)).. {
@@ -48,7 +48,7 @@ pub fn listing(input: &[u8]) -> String {
 /// The line of a log record.
 fn handed(output: &[u8], index: usize) -> String {
     let record = fields(output, index);
-    let start = index * LOG_RECORD + 6;
+    let start = index * LOG_RECORD + PAYLOAD_AT;
     let payload = output
         .get(start..start + usize::from(record.length))
         .unwrap_or(&[]);

@@ -2,7 +2,13 @@
 
 use super::faults::{planted, Fault};
 use super::message::number;
+use super::version::cut;
 use super::{Message, LOG_RECORD, PAYLOAD};
+
+/// Where the length of a payload stands in a log record, and the payload: behind the source, 1 byte,
+/// and the deadline, 8 bytes.
+pub const LENGTH_AT: usize = 9;
+pub const PAYLOAD_AT: usize = 10;
 
 /// An output, and how many log records stand in it.
 pub struct Log<'output> {
@@ -18,7 +24,11 @@ impl<'output> Log<'output> {
     /// Writes the record of a message behind those before it.
     pub fn write(&mut self, message: &Message) {
         let mut record = vec![message.source];
-        record.extend(message.deadline.to_be_bytes());
+        let deadline = cut(message.deadline, Fault::LogDeadlineCut);
+        match planted(Fault::LogDeadlineInFour) {
+            true => record.extend((deadline as u32).to_be_bytes()),
+            false => record.extend(deadline.to_be_bytes()),
+        }
         record.push(message.payload.len() as u8);
         record.extend(&message.payload);
         if !planted(Fault::LogZerosMissing) {
@@ -47,7 +57,7 @@ impl<'output> Log<'output> {
 #[derive(Clone, Copy, Debug, Default, PartialEq, Eq)]
 pub struct Fields {
     pub source: u8,
-    pub deadline: u32,
+    pub deadline: u64,
     pub length: u8,
 }
 
@@ -65,7 +75,8 @@ pub fn fields(log: &[u8], index: usize) -> Fields {
     if record.len() < least {
         return Fields::default();
     }
-    let (source, deadline, length) = (record[0], number(&record[1..5]) as u32, record[5]);
+    let (source, length) = (record[0], record[LENGTH_AT]);
+    let deadline = cut(number(&record[1..LENGTH_AT]), Fault::LogDeadlineReadCut);
     let long = usize::from(length) > PAYLOAD && !planted(Fault::LogLengthUnchecked);
     match deadline == 0 || long {
         true => Fields::default(),

@@ -16,11 +16,13 @@ mod planting;
 mod removal;
 mod sending;
 mod tracing;
+mod version;
 
 pub use listing::listing;
 pub use message::{Barrier, Message};
 pub use panel::{fresh, Panel};
 pub use removal::Make;
+pub use version::Version;
 
 use faults::exchanged;
 use std::fmt;
@@ -31,12 +33,12 @@ pub const PANELS: u8 = 64;
 pub const WAITING: usize = 32;
 /// Bytes of the longest payload.
 pub const PAYLOAD: usize = 32;
-/// Bytes of a log record.
-pub const LOG_RECORD: usize = 38;
-/// Bytes that an output has at least.
-pub const OUTPUT: usize = 1254;
-/// Bytes that the frame buffer of a send has at least, and those of the longest frame.
-pub const FRAME: usize = 307;
+/// Bytes of a log record, those that an output has at least, and those that the frame buffer of a
+/// send has at least and the longest frame has. Document 02, W-208: "A log record has 42 bytes; an
+/// output needs 1,386 bytes and a frame buffer 567."
+pub const LOG_RECORD: usize = 42;
+pub const OUTPUT: usize = 1386;
+pub const FRAME: usize = 567;
 /// What lifetime 0 means. Document 02, W-203: "From now on 0 means 7,200."
 pub const DEFAULT_LIFETIME: u16 = 7200;
 /// The lifetime of a beacon. Document 02, W-203: "give it a call of its own, which answers in
@@ -44,7 +46,7 @@ pub const DEFAULT_LIFETIME: u16 = 7200;
 pub const BEACON_LIFETIME: u16 = 1200;
 /// How many seconds a received deadline may be above the time. Document 02, W-205: "A received
 /// deadline above time + 1,209,600 (14 days) is now refused."
-pub const FARTHEST_AHEAD: u32 = 1_209_600;
+pub const FARTHEST_AHEAD: u64 = 1_209_600;
 
 /// What the test for ready answers: whether the message is ready, and how many of its entries were
 /// visited.
@@ -107,8 +109,10 @@ fn refused(number: u8) -> Answer {
 /// The number of the first check that applies. The checks stand in document 01's order.
 fn first<const MANY: usize>(mut checks: [(u8, bool); MANY]) -> Option<u8> {
     if let Some((earlier, later)) = exchanged() {
-        let place = |wanted| checks.iter().position(|(number, _)| *number == wanted);
-        if let (Some(one), Some(other)) = (place(earlier), place(later)) {
+        let mut places = 0..MANY;
+        let one = places.find(|place| checks[*place].0 == earlier);
+        let other = places.find(|place| checks[*place].0 == later);
+        if let (Some(one), Some(other)) = (one, other) {
             checks.swap(one, other);
         }
     }

@@ -4,7 +4,8 @@
 use super::delivery::visit;
 use super::faults::{planted, Fault};
 use super::floor::During;
-use super::{Barrier, Make, Message, PANELS, WAITING};
+use super::version::lower;
+use super::{Barrier, Make, Message, Version, PANELS, WAITING};
 use crate::kept::Kept;
 use std::borrow::Cow;
 
@@ -29,10 +30,10 @@ impl Pending {
 pub struct Panel {
     pub make: Make,
     pub own: u8,
-    pub time: u32,
-    pub high: u32,
+    pub time: u64,
+    pub high: u64,
     /// Document 02, W-207: "The record gains a floor, 0 at first."
-    pub floor: u32,
+    pub floor: u64,
     /// Whether the floor rises. In versions 0.5 and 0.6, which have none, it does not.
     pub keeps_floor: bool,
     /// The marks; a source without any has no entry.
@@ -47,7 +48,7 @@ pub struct Panel {
     /// Places of the list that are never used again: none, but for a planted fault.
     pub lost_places: usize,
     /// Messages that are never taken, or never handed: none, but for planted faults.
-    pub turned_down: Vec<(u8, u32)>,
+    pub turned_down: Vec<(u8, u64)>,
     /// The panel settles just now, and in this call: planted faults ask for it.
     pub settling: bool,
     pub during: During,
@@ -57,6 +58,10 @@ pub struct Panel {
     pub left_over: Barrier,
     /// For each panel the largest entry that was missed: a planted fault asks for it.
     pub largest_missed: Barrier,
+    /// The messages that were taken, each with the version that it came in, and the last of these:
+    /// planted faults ask for them.
+    pub taken: Vec<(u8, u64, Version)>,
+    pub last_version: Version,
 }
 
 /// A fresh panel of this make, and the number that it is answered with.
@@ -66,7 +71,7 @@ pub fn fresh(number: u8, make: Make) -> (Panel, u8) {
         own: number,
         time: 0,
         high: 0,
-        floor: u32::from(planted(Fault::FreshFloorOne)),
+        floor: u64::from(planted(Fault::FreshFloorOne)),
         keeps_floor: true,
         delivered: Barrier::new(),
         barrier: Barrier::new(),
@@ -80,6 +85,8 @@ pub fn fresh(number: u8, make: Make) -> (Panel, u8) {
         received: None,
         left_over: Barrier::new(),
         largest_missed: Barrier::new(),
+        taken: Vec::new(),
+        last_version: Version::Two,
     };
     let last = PANELS - 1 + u8::from(planted(Fault::FreshSixtyFourTaken));
     if number <= last {
@@ -92,7 +99,7 @@ pub fn fresh(number: u8, make: Make) -> (Panel, u8) {
 }
 
 /// The entries of 64 numbers, in which 0 says that a panel has none.
-fn entries(numbers: &[u32; 64]) -> Barrier {
+fn entries(numbers: &[u64; 64]) -> Barrier {
     let places = (0..PANELS).zip(numbers);
     places
         .filter(|(_, entry)| **entry != 0)
@@ -101,7 +108,7 @@ fn entries(numbers: &[u32; 64]) -> Barrier {
 }
 
 /// The 64 numbers of these entries.
-fn numbers(entries: &Barrier) -> [u32; 64] {
+fn numbers(entries: &Barrier) -> [u64; 64] {
     let mut numbers = [0; 64];
     for (panel, entry) in entries {
         numbers[usize::from(*panel) % 64] = *entry;
@@ -123,9 +130,9 @@ impl Panel {
             ..fresh(0, make).0
         };
         for frame in kept.frames.iter().take(kept.count) {
-            match Message::read(frame) {
-                Ok(message) => panel.wait(message),
-                Err(_) => panel.unreadable += 1,
+            match Message::kept(frame) {
+                Some(message) => panel.wait(message),
+                None => panel.unreadable += 1,
             }
         }
         panel
@@ -133,8 +140,13 @@ impl Panel {
 
     /// Puts a message to the end of the list.
     pub fn wait(&mut self, message: Message) {
+        let came_in = message.version;
+        let message = message.widened();
         let left = self.predecessors_left(&message);
-        let frame = message.frame();
+        let mut frame = message.frame();
+        if planted(Fault::WidenedVersionStays) {
+            frame[4] = came_in.number();
+        }
         let pending = Pending {
             message,
             left,
@@ -149,7 +161,7 @@ impl Panel {
     /// Whether the record is broken, in the words of 26.
     pub fn broken(&self) -> bool {
         let last = PANELS - 1 + u8::from(planted(Fault::OwnNumberSixtyFourLetThrough));
-        let above = |entries: &Barrier| entries.values().any(|entry| *entry > self.high);
+        let above = |entries: &Barrier| entries.values().any(|entry| self.above_high(*entry));
         let excess = self
             .excess
             .saturating_sub(usize::from(planted(Fault::ThirtyThreeLetThrough)));
@@ -162,13 +174,20 @@ impl Panel {
             || self.broken_by_floor()
     }
 
+    fn above_high(&self, entry: u64) -> bool {
+        match planted(Fault::BrokenIn32Bits) {
+            true => lower(entry) > lower(self.high),
+            false => entry > self.high,
+        }
+    }
+
     /// The 64 marks.
-    pub fn marks(&self) -> [u32; 64] {
+    pub fn marks(&self) -> [u64; 64] {
         numbers(&self.delivered)
     }
 
     /// The 64 barrier entries.
-    pub fn barrier_entries(&self) -> [u32; 64] {
+    pub fn barrier_entries(&self) -> [u64; 64] {
         numbers(&self.barrier)
     }
 

@@ -46,7 +46,8 @@ pub fn planted(fault: Fault) -> bool {
     which() == Some(fault)
 }
 
-/// The two numbers that a planted fault has exchanged in the order of the checks.
+/// The two numbers that a planted fault has exchanged in the order of the checks: the second is that
+/// of the first such check behind the other.
 pub fn exchanged() -> Option<(u8, u8)> {
     match which()? {
         Fault::ShortBeforeBroken => Some((26, 10)),
@@ -57,7 +58,9 @@ pub fn exchanged() -> Option<(u8, u8)> {
         Fault::FullBeforeHad => Some((22, 23)),
         Fault::ClockBackBeforeShort => Some((10, 25)),
         Fault::VersionBeforeMark => Some((2, 3)),
+        Fault::ShortOfTwoBeforeVersion => Some((3, 1)),
         Fault::SourceBeforeVersion => Some((3, 4)),
+        Fault::ShortOfTwoAfterSource => Some((1, 4)),
         Fault::DeadlineBeforeSource => Some((4, 5)),
         Fault::EntriesShortBeforeDeadline => Some((5, 1)),
         Fault::PayloadLengthBeforeEntries => Some((6, 7)),

@@ -4,6 +4,7 @@
 
 use super::delivery::raise;
 use super::faults::{planted, which, Fault};
+use super::version::lower;
 use super::{Barrier, Message, Panel, PANELS};
 
 /// The make of a panel: the old make hands as document 01 has it, the new make as W-204 has it.
@@ -24,7 +25,7 @@ impl Make {
 
 /// The rule of W-204: whether a barrier entry is at most the one that a message carries for the
 /// same panel.
-fn at_most_carried(carried: &Barrier, panel: u8, entry: u32) -> bool {
+fn at_most_carried(carried: &Barrier, panel: u8, entry: u64) -> bool {
     carried.get(&panel).is_some_and(|carried| entry <= *carried)
 }
 
@@ -37,7 +38,7 @@ impl Panel {
     /// Removes the barrier entries that a message makes superfluous as it is handed.
     pub fn remove_carried(&mut self, message: &Message) {
         let carried = &message.predecessors;
-        let goes = |panel: u8, entry: u32| {
+        let goes = |panel: u8, entry: u64| {
             let by_the_rule = self.make == Make::New && at_most_carried(carried, panel, entry);
             let mistaken = match self.make {
                 Make::Old => self.goes_from_old(message, panel, entry),
@@ -56,23 +57,26 @@ impl Panel {
     }
 
     /// Whether a barrier entry goes by a planted fault that comes in front of the rule.
-    fn goes_from_new(&self, message: &Message, panel: u8, entry: u32) -> Option<bool> {
+    fn goes_from_new(&self, message: &Message, panel: u8, entry: u64) -> Option<bool> {
         let entries = &message.predecessors;
         let carried = entries.get(&panel).copied();
-        let up_to = |limit: Option<u32>| Some(limit.is_some_and(|limit| entry <= limit));
+        let up_to = |limit: Option<u64>| Some(limit.is_some_and(|limit| entry <= limit));
         match which()? {
             Fault::EqualEntryStays => up_to(carried.map(|carried| carried - 1)),
             Fault::OnlyEqualEntryRemoved => Some(carried == Some(entry)),
             Fault::EntryOneAboveRemoved => up_to(carried.map(|carried| carried.saturating_add(1))),
             Fault::EntryAboveRemoved => Some(carried.is_some()),
             Fault::EntriesWithASign => {
-                Some(carried.is_some_and(|carried| entry as i32 <= carried as i32))
+                Some(carried.is_some_and(|carried| entry as i64 <= carried as i64))
+            }
+            Fault::RemovedIn32Bits => {
+                Some(carried.is_some_and(|carried| lower(entry) <= lower(carried)))
             }
             Fault::RemovedByTheMark => up_to(self.delivered.get(&panel).copied()),
             Fault::RemovedByTheHighest => up_to(entries.values().max().copied()),
             Fault::RemovedByTheFirst => up_to(carried.and(entries.values().next().copied())),
             Fault::RemovedByTheDeadline => Some(entry <= message.deadline),
-            Fault::NotCarriedRemoved => up_to(carried.or(Some(u32::MAX))),
+            Fault::NotCarriedRemoved => up_to(carried.or(Some(u64::MAX))),
             Fault::RemovedPlaceByPlace => {
                 let place = self.barrier.keys().position(|named| *named == panel);
                 up_to(place.and_then(|place| entries.values().nth(place).copied()))
@@ -88,7 +92,7 @@ impl Panel {
     }
 
     /// Whether a planted fault keeps a barrier entry, whatever the rule says.
-    fn wrongly_stays(&self, message: &Message, panel: u8, entry: u32) -> bool {
+    fn wrongly_stays(&self, message: &Message, panel: u8, entry: u64) -> bool {
         let entries = &message.predecessors;
         let carried = entries.get(&panel).copied().unwrap_or(0);
         match which() {
@@ -111,7 +115,7 @@ impl Panel {
     }
 
     /// Whether a barrier entry goes by a planted fault of panels of the old make.
-    fn goes_from_old(&self, message: &Message, panel: u8, entry: u32) -> Option<bool> {
+    fn goes_from_old(&self, message: &Message, panel: u8, entry: u64) -> Option<bool> {
         let carried = &message.predecessors;
         match which()? {
             Fault::NewRuleAtOldPanel => Some(at_most_carried(carried, panel, entry)),

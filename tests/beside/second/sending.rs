@@ -1,11 +1,16 @@
 //! Send and beacon: the source's code 9, with document 01's refusals in front.
 
 use super::calls::short;
-use super::faults::{planted, Fault};
+use super::faults::{planted, which, Fault};
 use super::floor::During;
 use super::log::Log;
-use super::{accepted, first, refused, Answer, Message, Panel};
+use super::version::lower;
+use super::{accepted, first, refused, Answer, Message, Panel, Version};
 use super::{BEACON_LIFETIME, DEFAULT_LIFETIME, FRAME, LOG_RECORD, PAYLOAD};
+
+/// The last deadline. Document 02, W-208: "24, and case 6 with it, now stand at
+/// 18,446,744,073,709,551,615."
+const LAST: u128 = 18_446_744_073_709_551_615;
 
 /// What is sent. That it is a beacon makes a difference to planted faults only.
 struct Note<'payload> {
@@ -78,13 +83,11 @@ impl Panel {
 
     fn send_note(&mut self, note: &Note, output: &mut [u8], frame: &mut [u8]) -> Answer {
         let deadline = self.next_deadline(note);
-        let last = match (
-            planted(Fault::LastDeadlineRefused),
-            planted(Fault::DeadlinePastLastSent),
-        ) {
-            (true, _) => u64::from(u32::MAX) - 1,
-            (_, true) => u64::from(u32::MAX) + 1,
-            _ => u64::from(u32::MAX),
+        let last = match which() {
+            Some(Fault::LastDeadlineRefused) => LAST - 1,
+            Some(Fault::DeadlinePastLastSent) => LAST + 1,
+            Some(Fault::LastDeadlineAsItWas) => u128::from(u32::MAX),
+            _ => LAST,
         };
         let longest = PAYLOAD + usize::from(planted(Fault::PayloadThirtyThreeSent));
         let number = first([
@@ -96,15 +99,19 @@ impl Panel {
         ]);
         match number {
             Some(number) => refused(number),
-            None => self.accept(|panel| panel.broadcast(note, deadline as u32, output, frame)),
+            None => self.accept(|panel| panel.broadcast(note, deadline as u64, output, frame)),
         }
     }
 
     /// Whether a buffer is too short.
     fn short_of_room(&self, note: &Note, output: &[u8], frame: &[u8]) -> bool {
-        let least_frame = match note.wrong(Fault::BeaconFrameJustFits) {
-            true => 19 + 4 * self.barrier.len() + note.payload.len(),
-            false => FRAME - usize::from(planted(Fault::FrameBufferOneByteShortTaken)),
+        let least_frame = match which() {
+            Some(Fault::BeaconFrameJustFits) if note.beacon => {
+                Version::Two.length(self.barrier.len(), note.payload.len())
+            }
+            Some(Fault::FrameBufferOneByteShortTaken) => FRAME - 1,
+            Some(Fault::FrameBufferAsItWas) => 307,
+            _ => FRAME,
         };
         let short_output = match note.wrong(Fault::BeaconOutputOfOneRecord) {
             true => output.len() < LOG_RECORD,
@@ -113,26 +120,31 @@ impl Panel {
         short_output || frame.len() < least_frame
     }
 
-    /// The deadline of a message sent now.
-    fn next_deadline(&self, note: &Note) -> u64 {
+    /// The deadline of a message sent now, without wrapping: it may be past the last.
+    fn next_deadline(&self, note: &Note) -> u128 {
         let lifetime = seconds(note.lifetime);
-        let by_clock = match planted(Fault::DeadlineWraps) {
-            true => u64::from(self.time.wrapping_add(lifetime as u32)),
-            false => u64::from(self.time) + lifetime,
+        let by_clock = match which() {
+            Some(Fault::DeadlineWraps) => u128::from(self.time.wrapping_add(lifetime)),
+            Some(Fault::DeadlineIn32Bits) => u128::from(lower(self.time.wrapping_add(lifetime))),
+            _ => u128::from(self.time) + u128::from(lifetime),
         };
         if planted(Fault::DeadlineByTheClockAlone) || note.wrong(Fault::BeaconByTheClockAlone) {
             return by_clock;
         }
-        let above = u64::from(!planted(Fault::DeadlineNotAboveHigh));
-        let deadline = self.mistaken_deadline(by_clock.max(u64::from(self.high) + above), by_clock);
+        let above_high = match which() {
+            Some(Fault::DeadlineNotAboveHigh) => u128::from(self.high),
+            Some(Fault::AboveHighWraps) => u128::from(self.high.wrapping_add(1)),
+            _ => u128::from(self.high) + 1,
+        };
+        let deadline = self.mistaken_deadline(by_clock.max(above_high), by_clock);
         match note.wrong(Fault::BeaconStopsAtTheLast) {
-            true => deadline.min(u64::from(u32::MAX)),
+            true => deadline.min(LAST),
             false => deadline,
         }
     }
 
     /// The message sent now: its predecessors are the barrier as it is.
-    fn next_message(&mut self, note: &Note, deadline: u32) -> Message {
+    fn next_message(&mut self, note: &Note, deadline: u64) -> Message {
         if planted(Fault::BarrierEmptiedBeforeFrame) || note.wrong(Fault::BeaconWithoutEntries) {
             self.barrier.clear();
         }
@@ -153,11 +165,25 @@ impl Panel {
         if planted(Fault::OwnEntryLeftOut) {
             predecessors.remove(&self.own);
         }
-        Message {
+        let message = Message {
             source: self.own,
             deadline,
             predecessors,
             payload: note.payload().to_vec(),
+            version: Version::Two,
+        };
+        let version = self.version_sent(note, &message);
+        Message { version, ..message }
+    }
+
+    /// The version that a message is sent in: the second, but for planted faults.
+    fn version_sent(&self, note: &Note, message: &Message) -> Version {
+        match which() {
+            Some(Fault::VersionOneSent) => Version::One,
+            Some(Fault::BeaconOfVersionOne) if note.beacon => Version::One,
+            Some(Fault::VersionOneSentWhereItFits) if message.fits_version_one() => Version::One,
+            Some(Fault::VersionOfTheLastSent) => self.last_version,
+            _ => Version::Two,
         }
     }
 
@@ -165,7 +191,7 @@ impl Panel {
     fn broadcast(
         &mut self,
         note: &Note,
-        deadline: u32,
+        deadline: u64,
         output: &mut [u8],
         frame: &mut [u8],
     ) -> Answer {

@@ -104,7 +104,7 @@ impl Panel {
             Fault::TraceEntryAtItsMarkNotMet => {
                 other.delivered.values_mut().for_each(|mark| *mark -= 1)
             }
-            Fault::TraceOwnEntryMet => _ = other.delivered.insert(self.own, u32::MAX),
+            Fault::TraceOwnEntryMet => _ = other.delivered.insert(self.own, u64::MAX),
             Fault::TraceAfterSettling => other.check_pending_messages(&mut Log::new(&mut [])),
             _ => return None,
         }
@@ -115,7 +115,7 @@ impl Panel {
     fn visits(&self, message: &Message, test: Test) -> usize {
         let entries = &message.predecessors;
         let visited = || entries.iter().take(test.visited);
-        let panel = |visit: Option<(&u8, &u32)>| visit.map_or(0, |(panel, _)| usize::from(*panel));
+        let panel = |visit: Option<(&u8, &u64)>| visit.map_or(0, |(panel, _)| usize::from(*panel));
         match which() {
             Some(Fault::EmptyBitsVisited) if test.ready => usize::from(PANELS),
             Some(Fault::EmptyBitsVisited) => panel(visited().last()) + 1,

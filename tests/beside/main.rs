@@ -7,6 +7,7 @@ mod arrivals;
 mod barriers;
 mod beacons;
 mod bits;
+mod borders;
 mod bundles;
 mod calls;
 mod cases;
@@ -42,6 +43,8 @@ mod side;
 mod stays;
 mod traces;
 mod trials;
+mod versions;
+mod wide;
 mod words;
 mod yards;
 mod years;
@@ -148,6 +151,11 @@ fn compare_all(options: &Options, both: &mut Both) -> Result<(), Found> {
     barriers::run(both).map_err(named)?;
     let named = part("floors", "the floor, and clocks that are set back");
     floors::run(both).map_err(named)?;
+    let named = part(
+        "versions",
+        "frames of both versions, and deadlines of 64 bits",
+    );
+    versions::run(both, list).map_err(named)?;
     let named = part("bundles", "bundles at every place, and logs at every index");
     bundles::readers(both, seed, calls / 1_000 + 1).map_err(named)?;
     let named = part(

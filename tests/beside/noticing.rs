@@ -7,7 +7,7 @@ use crate::mixed::Mixed;
 use crate::random::Random;
 use crate::second::faults::{plant, Fault};
 use crate::side::{Alone, Found};
-use crate::{ahead, barriers, bundles, cases, floors, frames, lists, records};
+use crate::{ahead, barriers, bundles, cases, floors, frames, lists, records, versions};
 use std::path::Path;
 
 /// Calls of lists after which the claims have to have noticed a fault.
@@ -28,6 +28,7 @@ fn run_part(part: &str, long: u64, both: &mut Both, seed: u64, list: &Path) -> R
         "ahead" => ahead::run(both, list),
         "barriers" => barriers::run(both),
         "floors" => floors::run(both),
+        "versions" => versions::run(both, list),
         "frames" => frames::run(both, seed, long),
         "records" => records::run(both, seed ^ long, long),
         "bundles" => bundles::readers(both, seed, long),
@@ -44,6 +45,7 @@ pub fn compared(fault: Option<Fault>, seed: u64, list: &Path) -> Option<Noticed>
         ("ahead", 1),
         ("barriers", 1),
         ("floors", 1),
+        ("versions", 1),
         ("bundles", 80),
         ("frames", 1),
         ("lists", 2_000),

@@ -1,14 +1,16 @@
-//! The wrapper for Rust: each call and each reader, and what they refuse. calls.c and readers.c
-//! test the calls in full.
+//! The wrapper for Rust: each call and each reader, and what they refuse. The tests in C test the
+//! calls in full.
 #![forbid(unsafe_code)]
+
+mod versions;
 
 use panel::{
     frame_check, log_record, log_records, Bundle, BundleBroken, LogRecord, Panel, Refusal, Trace,
-    FARTHEST_AHEAD, LIFETIME_BEACON, LIFETIME_DEFAULT, LOG_RECORD,
+    DEADLINE_MAX, FARTHEST_AHEAD, FRAME_MASK_AT, LIFETIME_BEACON, LIFETIME_DEFAULT, LOG_RECORD,
 };
 
 /// The records of a call that was accepted: source, deadline and payload of each.
-fn records(log: &panel::Log) -> Vec<(u8, u32, &[u8])> {
+fn records(log: &panel::Log) -> Vec<(u8, u64, &[u8])> {
     assert_eq!(log.len(), log.records().count());
     assert_eq!(log.is_empty(), log.records().count() == 0);
     log.records()
@@ -16,16 +18,26 @@ fn records(log: &panel::Log) -> Vec<(u8, u32, &[u8])> {
         .collect()
 }
 
-/// A frame without payload.
-fn frame(source: u8, deadline: u32, mask: u64, entries: &[u32]) -> Vec<u8> {
-    let mut bytes = vec![0x44, 0x52, 0x59, 0, 1, source];
-    bytes.extend(deadline.to_be_bytes());
-    bytes.extend(mask.to_be_bytes());
+/// A frame of this version without payload, with so many bytes for each number.
+fn written(version: u8, bytes: usize, name: (u8, u64), mask: u64, entries: &[u64]) -> Vec<u8> {
+    let mut frame = vec![0x44, 0x52, 0x59, 0, version, name.0];
+    frame.extend(&name.1.to_be_bytes()[8 - bytes..]);
+    frame.extend(mask.to_be_bytes());
     for entry in entries {
-        bytes.extend(entry.to_be_bytes());
+        frame.extend(&entry.to_be_bytes()[8 - bytes..]);
     }
-    bytes.push(0);
-    bytes
+    frame.push(0);
+    frame
+}
+
+/// A frame of version 2 without payload.
+fn frame(source: u8, deadline: u64, mask: u64, entries: &[u64]) -> Vec<u8> {
+    written(2, 8, (source, deadline), mask, entries)
+}
+
+/// The same of version 1.
+fn frame_1(source: u8, deadline: u64, mask: u64, entries: &[u64]) -> Vec<u8> {
+    written(1, 4, (source, deadline), mask, entries)
 }
 
 /// Bench cases 1 and 2.
@@ -33,11 +45,15 @@ fn sends() -> Result<(), Refusal> {
     let mut three = Panel::fresh(3)?;
     assert!(three.clock(100)?.is_empty());
     let (sent, log) = three.send(b"OK", 0)?;
-    assert_eq!(sent[..10], [0x44, 0x52, 0x59, 0, 1, 3, 0, 0, 0x1c, 0x84]);
-    assert_eq!(sent[10..], *b"\0\0\0\0\0\0\0\0\x02OK");
+    assert_eq!(sent[..6], [0x44, 0x52, 0x59, 0, 2, 3]);
+    assert_eq!(sent[6..14], [0, 0, 0, 0, 0, 0, 0x1c, 0x84]);
+    assert_eq!(sent[FRAME_MASK_AT..], *b"\0\0\0\0\0\0\0\0\x02OK");
+    assert_eq!(sent.len(), 25);
     assert_eq!(records(&log), [(3, 7300, &b"OK"[..])]);
     let (sent, log) = three.send(b"", 0)?;
     assert_eq!(sent[..], frame(3, 7301, 8, &[7300]));
+    assert_eq!(sent[FRAME_MASK_AT..FRAME_MASK_AT + 8], 8u64.to_be_bytes());
+    assert_eq!(sent.len(), 31);
     assert_eq!(records(&log), [(3, 7301, &b""[..])]);
     assert_eq!((three.own(), three.time(), three.waiting()), (3, 100, 0));
     Ok(())
@@ -48,15 +64,16 @@ fn beacons() -> Result<(), Refusal> {
     let mut three = Panel::fresh(3)?;
     three.clock(100)?;
     let (sent, log) = three.beacon(b"OK")?;
-    assert_eq!(sent[..10], [0x44, 0x52, 0x59, 0, 1, 3, 0, 0, 5, 0x14]);
-    assert_eq!(sent[10..], *b"\0\0\0\0\0\0\0\0\x02OK");
+    assert_eq!(sent[..6], [0x44, 0x52, 0x59, 0, 2, 3]);
+    assert_eq!(sent[6..14], [0, 0, 0, 0, 0, 0, 5, 0x14]);
+    assert_eq!(sent[FRAME_MASK_AT..], *b"\0\0\0\0\0\0\0\0\x02OK");
     assert_eq!(records(&log), [(3, 1300, &b"OK"[..])]);
     let mut four = Panel::fresh(4)?;
     four.send(b"", 0)?;
-    let note = u32::from(LIFETIME_DEFAULT);
+    let note = u64::from(LIFETIME_DEFAULT);
     assert_eq!(four.beacon(b"")?.0[..], frame(4, note + 1, 16, &[note]));
     let mut five = Panel::fresh(5)?;
-    let lapses = u32::from(LIFETIME_BEACON);
+    let lapses = u64::from(LIFETIME_BEACON);
     assert_eq!(records(&five.beacon(b"")?.1), [(5, lapses, &b""[..])]);
     Ok(())
 }
@@ -90,14 +107,14 @@ fn refusals() -> Result<(), Refusal> {
     assert_eq!(three.receive(&[]).err(), Some(Refusal::FrameShort));
     let own = frame(3, 9, 0, &[]);
     assert_eq!(three.receive(&own).err(), Some(Refusal::OwnSource));
-    three.clock(u32::MAX)?;
+    three.clock(DEADLINE_MAX)?;
     assert_eq!(three.clock(0).err(), Some(Refusal::ClockBack));
     assert_eq!(three.send(b"", 0).err(), Some(Refusal::DeadlineTooHigh));
     assert_eq!(three.beacon(b"").err(), Some(Refusal::DeadlineTooHigh));
     let late = frame(4, 9, 0, &[]);
     assert_eq!(three.receive(&late).err(), Some(Refusal::Lapsed));
     assert_eq!(frame_check(&late), Ok(()));
-    assert_eq!(frame_check(&late[1..]), Err(Refusal::FrameShort));
+    assert_eq!(frame_check(&late[..22]), Err(Refusal::FrameShort));
     assert_eq!(
         frame_check(&frame(64, 9, 0, &[])),
         Err(Refusal::FrameSource)
@@ -215,8 +232,8 @@ fn full_list() -> Result<(), Refusal> {
     let one_more = frame(2, 132, 2, &[50]);
     assert_eq!(seven.receive(&one_more).err(), Some(Refusal::ListFull));
     let log = seven.receive(&frame(1, 50, 0, &[]))?;
-    let deadlines: Vec<u32> = log.records().map(|record| record.deadline).collect();
-    let expected: Vec<u32> = std::iter::once(50).chain(100..132).collect();
+    let deadlines: Vec<u64> = log.records().map(|record| record.deadline).collect();
+    let expected: Vec<u64> = std::iter::once(50).chain(100..132).collect();
     assert_eq!(deadlines, expected);
     assert_eq!(log.bytes().len(), 33 * LOG_RECORD);
     Ok(())
@@ -254,11 +271,11 @@ fn traces() -> Result<(), Refusal> {
 
 fn logs() {
     let mut log = [0; 2 * LOG_RECORD];
-    log[..8].copy_from_slice(b"\x03\0\0\x05\x14\x02OK");
-    log[LOG_RECORD..LOG_RECORD + 6].copy_from_slice(b"\x04\0\0\x05\x15\0");
+    log[..12].copy_from_slice(b"\x03\0\0\0\x01\0\0\x05\x14\x02OK");
+    log[LOG_RECORD..LOG_RECORD + 10].copy_from_slice(b"\x04\0\0\0\0\0\0\x05\x15\0");
     let first = LogRecord {
         source: 3,
-        deadline: 1300,
+        deadline: (1 << 32) + 1300,
         payload: b"OK",
     };
     assert_eq!(log_record(&log, 0), Some(first));
@@ -267,7 +284,7 @@ fn logs() {
     assert_eq!(log_records(&log).count(), 2);
     assert_eq!(log_records(&log[..2 * LOG_RECORD - 1]).count(), 1);
     assert_eq!(log_records(&[]).count(), 0);
-    log[LOG_RECORD + 5] = 33;
+    log[LOG_RECORD + 9] = 33;
     assert_eq!(log_records(&log).count(), 1);
 }
 
@@ -289,6 +306,7 @@ fn main() -> Result<(), Refusal> {
     receives()?;
     refusals()?;
     far_ahead()?;
+    versions::run()?;
     set_backs()?;
     floor_rises()?;
     shorter_barriers()?;

@@ -1,6 +1,6 @@
-//! Numbers of 64 bits compared with each other, as document 02 has them in W-208: "Time, high, floor,
-//! marks, entries and deadlines become 64 bits." They lie on both sides of 4,294,967,295, or their
-//! lower 32 bits stand the other way round.
+//! Numbers of 64 bits beside each other, as document 02 has them in W-208: "Time, high, floor, marks,
+//! entries and deadlines become 64 bits." They lie on both sides of 4,294,967,295, or their lower 32
+//! bits stand the other way round.
 
 use crate::calls::Call;
 use crate::cases::{hands, is, refuses, Log};

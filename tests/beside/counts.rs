@@ -207,11 +207,15 @@ impl Counts {
     }
 
     /// The counts that have to come up, in groups.
-    fn groups(&self) -> [(&'static str, Rows); 6] {
+    fn groups(&self) -> [(&'static str, Rows); 7] {
         let [lawful, forged] = &self.beside_shadows;
         [
             ("in all parts", self.of_records.rows()),
             ("in lists", rows::of_lists(&self.lists)),
+            (
+                "in lists, with frames of both versions",
+                rows::of_versions(&self.lists),
+            ),
             ("in lists of demand 3", rows::of_floors(self.lists.floors)),
             (
                 "in lists of demand 3, beside shadows of the old make",

@@ -9,8 +9,8 @@ use crate::second::LOG_RECORD;
 use crate::side::{Found, Side};
 use std::collections::BTreeSet;
 
-/// Bytes of source and deadline, which stand next to each other in a log record, and in the frame of
-/// a waiting message.
+/// Bytes of source and deadline, which stand next to each other in a log record and in the frame
+/// of a waiting message.
 const NAME: usize = LENGTH_AT;
 /// What a receive of a frame that was sent answers, if the output is long enough.
 const NUMBERS: [u8; 6] = [0, 20, 21, 22, 23, 32];

@@ -10,7 +10,7 @@ use crate::random::Random;
 use crate::second::{Answer, Make, FRAME, OUTPUT};
 use crate::side::{Found, Side};
 
-/// Whether a frame has a deadline that version 1 has no room for, and an entry that it has room for.
+/// Whether version 1 has no room for the deadline of a frame, and has room for one of its entries.
 fn across_border(frame: &[u8]) -> bool {
     let below = |(_, entry): &(u8, u64)| *entry <= BORDER;
     compose::deadline_of(frame) > BORDER && compose::entries_of(frame).iter().any(below)

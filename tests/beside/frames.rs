@@ -1,5 +1,5 @@
-//! Frames of both versions through the frame check, and through a receive with its trace: damaged at
-//! every byte, cut, extended, and random ones of every length.
+//! Frames of both versions through the frame check, and through a receive with its trace: damaged
+//! at every byte, cut, extended, and random ones of every length.
 
 use crate::calls::Call;
 use crate::compare::Both;

@@ -188,7 +188,20 @@ fn calls(random: &mut Random) -> u64 {
     random.between(least, most) as u64
 }
 
-/// The clocks of farms in which much is passed on.
+/// The clocks of farms, each as likely as the others.
+const CLOCKS: [Clocks; 10] = [
+    Clocks::Near,
+    Clocks::Near,
+    Clocks::Apart,
+    Clocks::Apart,
+    Clocks::Wide,
+    Clocks::Last,
+    Clocks::Border,
+    Clocks::Border,
+    Clocks::Weeks,
+    Clocks::LastWeeks,
+];
+/// The same of farms in which messages spread or fill the lists.
 const TOGETHER: [Clocks; 5] = [
     Clocks::Near,
     Clocks::Apart,
@@ -199,7 +212,6 @@ const TOGETHER: [Clocks; 5] = [
 
 impl Plan {
     pub fn any(random: &mut Random, lawful: bool) -> Plan {
-        use Clocks::{Apart, Border, Last, LastWeeks, Near, Weeks, Wide};
         use Makes::{AllNew, Half, OneNew};
         use Order::{Any, NewestFirst, OldestFirst};
         let mut plan = Plan {
@@ -212,9 +224,7 @@ impl Plan {
             lawful,
             claims: lawful,
             arrivals: 0,
-            clocks: random.pick(&[
-                Near, Near, Apart, Apart, Wide, Last, Border, Border, Weeks, LastWeeks,
-            ]),
+            clocks: random.pick(&CLOCKS),
             clock_step: random.pick(&[0, 1, 3, 30]),
             jumps: random.pick(&[0, 0, 0, 2]),
             wrong_years: random.pick(&[0, 0, 20, 60]),

@@ -150,6 +150,19 @@ pub fn of_lists(done: &Done) -> Rows {
         ),
         (done.sent_far_ahead, "messages sent far ahead", true),
         (done.taken_later, "messages taken after a 32", true),
+        (done.claim_checks, "checks of demand 3's claims", false),
+        (
+            done.spoken.messages,
+            "messages at panels that the last check of each list spoke of",
+            false,
+        ),
+        (done.spoken.waiting, "of them waiting for others", false),
+    ]
+}
+
+/// What was done in lists with frames of both versions.
+pub fn of_versions(done: &Done) -> Rows {
+    vec![
         (
             done.across_border,
             "messages sent above 4,294,967,295 that name one at most that",
@@ -166,12 +179,5 @@ pub fn of_lists(done: &Done) -> Rows {
             "logged messages refused with 22 in the other version",
             true,
         ),
-        (done.claim_checks, "checks of demand 3's claims", false),
-        (
-            done.spoken.messages,
-            "messages at panels that the last check of each list spoke of",
-            false,
-        ),
-        (done.spoken.waiting, "of them waiting for others", false),
     ]
 }

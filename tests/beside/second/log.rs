@@ -5,8 +5,8 @@ use super::message::number;
 use super::version::cut;
 use super::{Message, LOG_RECORD, PAYLOAD};
 
-/// Where the length of a payload stands in a log record, and the payload: behind the source, 1 byte,
-/// and the deadline, 8 bytes.
+/// Where the length of the payload stands in a log record, and the payload: behind the source, 1
+/// byte, and the deadline, 8 bytes.
 pub const LENGTH_AT: usize = 9;
 pub const PAYLOAD_AT: usize = 10;
 

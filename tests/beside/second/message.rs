@@ -1,6 +1,6 @@
 //! Messages, and the frames that carry them.
 
-use super::faults::{planted, Fault};
+use super::faults::{planted, which, Fault};
 use super::version::{cut, Layout, Version};
 use super::{first, PANELS, PAYLOAD};
 use std::collections::BTreeMap;
@@ -82,14 +82,8 @@ fn gone(entry: u64, fault: Fault) -> bool {
 impl Message {
     /// The message whose frame has these bytes, or the number of the first check that applies.
     pub fn read(bytes: &[u8]) -> Result<Message, u8> {
-        if planted(Fault::EveryFrameTurnedDown) {
-            return Err(2);
-        }
-        if planted(Fault::MarkBeforeLength) && bytes.len() >= 3 && bytes[..3] != MARK {
-            return Err(2);
-        }
-        if bytes.len() < SHORTEST {
-            return Err(1);
+        if let Some(number) = first_check(bytes) {
+            return Err(number);
         }
         let version = Version::of(bytes);
         let layout = Layout::of(version.unwrap_or(Version::Two));
@@ -152,6 +146,16 @@ impl Message {
         bytes.push(self.payload.len() as u8);
         bytes.extend(&self.payload);
         bytes
+    }
+}
+
+/// The first check: whether there are fewer bytes than in any frame. Planted faults come before it.
+fn first_check(bytes: &[u8]) -> Option<u8> {
+    let wrong_mark = bytes.get(..3).is_some_and(|mark| mark != MARK);
+    match which() {
+        Some(Fault::EveryFrameTurnedDown) => Some(2),
+        Some(Fault::MarkBeforeLength) if wrong_mark => Some(2),
+        _ => (bytes.len() < SHORTEST).then_some(1),
     }
 }
 

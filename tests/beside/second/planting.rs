@@ -46,8 +46,8 @@ pub fn planted(fault: Fault) -> bool {
     which() == Some(fault)
 }
 
-/// The two numbers that a planted fault has exchanged in the order of the checks: the second is that
-/// of the first such check behind the other.
+/// The two numbers that a planted fault has exchanged in the order of the checks. The second is
+/// looked for behind the first.
 pub fn exchanged() -> Option<(u8, u8)> {
     match which()? {
         Fault::ShortBeforeBroken => Some((26, 10)),

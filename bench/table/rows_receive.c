@@ -24,20 +24,22 @@ static void ready_rows(void)
     row("receive, ready, 64 entries, 0 waiting", 0, 1);
 }
 
-/* Ready ones whose entries are those of the barrier; in the rows above they remove none of it. */
+/*
+ * Ready ones whose entries are those of the barrier; in the rows above they remove none of it. As at any
+ * panel that calls lead to, a barrier entry is its panel's mark.
+ */
 static void shorter_rows(void)
 {
     Message ready = usual(50, 2000), largest = longest(50, 2000);
 
     empty();
     for (int source = 40; source < 43; source++)
-        now.panel.barrier[source] = 590;
+        now.panel.marks[source] = now.panel.barrier[source] = 590;
     to_receive(&ready);
     row("receive, ready, 3 barrier entries removed", 0, 1);
     long_frames(0);
-    now.panel.marks[62] = 600;
     for (int source = 0; source < PANELS; source++)
-        now.panel.barrier[source] = 500;
+        now.panel.marks[source] = now.panel.barrier[source] = 500;
     to_receive(&largest);
     row("receive, ready, 64 barrier entries removed", 0, 1);
 }
@@ -50,11 +52,11 @@ static void floor_rows(void)
     empty();
     now.panel.time = 591;
     for (int source = 40; source < 43; source++)
-        now.panel.marks[source] = 580;
+        now.panel.marks[source] = now.panel.barrier[source] = 580;
     to_receive(&ready);
     row("receive, ready, floor raised, 3 entries", 0, 1);
     for (int source = 40; source < 43; source++)
-        now.panel.marks[source] = 0;
+        now.panel.marks[source] = now.panel.barrier[source] = 0;
     to_receive(&largest);
     row("receive, ready, floor raised, 64 entries", 0, 1);
 }

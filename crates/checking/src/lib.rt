@@ -8,6 +8,7 @@ use parts::broken;
 use slots::deadline;
 use slots::has_lapsed;
 use slots::is_waiting;
+use slots::mask;
 use slots::source;
 ghost use mathlib.Core.Path.{_≡_};
 ghost use mathlib.Core.List.{[]};
@@ -88,7 +89,7 @@ fn place_number<'a, 'b>(
     if count < 32 {
         return 0;
     }
-    let tested = ready(frame, marks, time, floor);
+    let tested = ready(frame, mask(frame), marks, time, floor);
     if tested.ready {
         return 0;
     }

@@ -1,18 +1,18 @@
 // The choice: which waiting messages are ready, and which of them goes first. An internal crate.
 // Precondition: slots that hold readable frames; the calls of a panel refuse any other record.
 use frame::ENTRIES_AT;
-use frame::MASK_AT;
 use frame::WIDTH;
 use numbers::number_at;
 use slots::deadline;
 use slots::has_lapsed;
 use slots::kept_frame;
+use slots::mask;
 use slots::source;
 ghost use mathlib.Core.Path.{_≡_};
 ghost use mathlib.Core.List.{[], _∷_};
 ghost use Prim.Native.Nat.{_<_};
 ghost use lib.ListN.{length, take};
-ghost use Rattle.frame.specs.Reading.{messageIn};
+ghost use Rattle.frame.specs.Reading.{maskIn, messageIn};
 ghost use Rattle.rules.specs.Sizes.{width};
 ghost use Rattle.rules.specs.Panel.{met};
 ghost use Rattle.rules.specs.Panel.{ready as isReady};
@@ -46,14 +46,15 @@ fn is_met(entry: u64, mark: u64, time: u64, floor: u64) -> bool
     has_lapsed(entry, time, floor)
 }
 
-// Whether the message of a readable frame is ready: from set bit to set bit of its mask, lowest first,
-// up to the first entry that is not met.
-pub fn ready(frame: &[u8], marks: &[u64; 64], time: u64, floor: u64) -> Tested
-    requires { ⌜ Reads (now frame) ⌝ }
+// Whether the message of a readable frame of that mask is ready: from set bit to set bit, lowest first, up
+// to the first entry that is not met. (The mask is read before: with it, this would be too long for the
+// compiler to put it into its callers.)
+pub fn ready(frame: &[u8], mask: u64, marks: &[u64; 64], time: u64, floor: u64) -> Tested
+    requires { ⌜ Reads (now frame) × (mask ≡ maskIn width (now frame)) ⌝ }
     ensures { λ r. ⌜ r .ready ≡ isReady (asking (now (marks .entry)) time floor) (messageIn width (now (frame .entry))) ⌝ }
     ensures { λ r. ⌜ r .visited ≡ visits (asking (now (marks .entry)) time floor) (messageIn width (now (frame .entry))) ⌝ }
 {
-    let mut bits = number_at(frame, MASK_AT, 8);
+    let mut bits = mask;
     let mut visited = 0;
     while bits != 0 {
         let panel = u64::trailing_zeros(bits) as usize;
@@ -100,20 +101,22 @@ fn consider<'a, 'b>(
         place (messageIn width (frameIn (now (slots .entry)) slot)) first ⌝ }
 {
     let frame = kept_frame(slots, slot);
+    let due = deadline(frame);
+    let from = source(frame);
     if first.found {
-        if !goes_before(deadline(frame), source(frame), first) {
+        if !goes_before(due, from, first) {
             return first;
         }
     }
-    let tested = ready(frame, marks, time, floor);
+    let tested = ready(frame, mask(frame), marks, time, floor);
     if !tested.ready {
         return first;
     }
     First {
         found: true,
         place,
-        deadline: deadline(frame),
-        source: source(frame),
+        deadline: due,
+        source: from,
     }
 }
 

@@ -12,7 +12,7 @@ ghost use Rattle.numbers.specs.Numbers.{numberAt, numbersAt};
 ghost use Rattle.frame.specs.Message.{byPanel};
 ghost use Rattle.frame.specs.Frame.{narrow, Width};
 ghost use Rattle.frame.specs.Refusal.{firstOf};
-ghost use Rattle.frame.specs.Reading.{widthIn, countIn, eachEarlier, checks, refusal, refusalOf, readingOf};
+ghost use Rattle.frame.specs.Reading.{widthIn, deadlineIn, countIn, eachEarlier, checks, refusal, refusalOf, readingOf};
 ghost use Rattle.frame.specs.Answer.{fieldsOf, PayloadPart};
 
 // The width of version 1, and that of version 2, in which frames are written and messages wait.
@@ -33,7 +33,15 @@ pub const SHORTEST: usize = ENTRIES_AT + 1;
 // The bytes of the longest frame, which a frame buffer has room for.
 pub const BUFFER: usize = 567;
 
-// The deadline or entry at a place: its first four bytes, and in version 2 four more.
+// The deadline: of the eight bytes at its place, all in version 2, and the high four in version 1.
+fn deadline_in(frame: &[u8], width: usize) -> u64
+    requires { ⌜ Width width × (14 ≤ length (now frame)) ⌝ }
+    ensures { λ r. ⌜ r ≡ deadlineIn width (now (frame .entry)) ⌝ }
+{
+    number_at(frame, DEADLINE_AT, 8) >> (64 - 8 * width)
+}
+
+// The entry at a place: its first four bytes, and in version 2 four more.
 fn entry_at(frame: &[u8], at: usize, width: usize) -> u64
     requires { ⌜ Width width × (at + width ≤ length (now frame)) ⌝ }
     ensures { λ r. ⌜ r ≡ numberAt (now (frame .entry)) at width ⌝ }
@@ -65,7 +73,7 @@ fn head_check(frame: &[u8], width: usize) -> u8
     if 63 < frame[5] {
         return 4; // the source
     }
-    if entry_at(frame, DEADLINE_AT, width) == 0 {
+    if deadline_in(frame, width) == 0 {
         return 5; // deadline 0
     }
     0
@@ -112,7 +120,7 @@ fn check(frame: &[u8], width: usize) -> u8
     if frame.len() < start {
         return 1; // too few bytes for the entries and the length byte
     }
-    if !each_earlier(frame, width, count, entry_at(frame, DEADLINE_AT, width)) {
+    if !each_earlier(frame, width, count, deadline_in(frame, width)) {
         return 6; // the entries
     }
     let length = frame[start - 1] as usize;
@@ -221,7 +229,7 @@ pub fn read(frame: &[u8]) -> Fields
     Fields {
         refusal: 0,
         source: frame[5],
-        deadline: entry_at(frame, DEADLINE_AT, width),
+        deadline: deadline_in(frame, width),
         mask,
         entries,
         payload_length: frame[14 + width + width * entry_count(frame, width)],

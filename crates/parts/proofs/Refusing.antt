@@ -1,5 +1,5 @@
 -- Laws of `broken`, test by test. Assumes nothing.
-use mathlib.Core.Path.{_≡_, sym, ap, _∙_}
+use mathlib.Core.Path.{_≡_, refl, sym, ap, _∙_}
 use mathlib.Core.Bool.{Bool, true, false, not, _&&_, or-true, and-true, and-assoc}
 use mathlib.Core.List.{List, [], _∷_, _++_}
 use Prim.Native.Nat.{ℕ, _+_, _≤_, _<_}
@@ -17,13 +17,20 @@ module _ (p : Panel) where
   unfolding broken
   broken-own above = simp (lt-ltb 63 (p .own) above)
 
-  pub broken-marks : eachBelow (p .high + 1) (p .marks) ≡ false → broken p ≡ true
+  broken-marks : eachBelow (p .high + 1) (p .marks) ≡ false → broken p ≡ true
   unfolding broken
   broken-marks above = simp (above, or-true)
 
-  pub broken-barrier : eachBelow (p .high + 1) (p .barrier) ≡ false → broken p ≡ true
+  broken-barrier : eachBelow (p .high + 1) (p .barrier) ≡ false → broken p ≡ true
   unfolding broken
   broken-barrier above = simp (above, or-true)
+
+  pub broken-above : (eachBelow (p .high + 1) (p .marks) && eachBelow (p .high + 1) (p .barrier)) ≡ false → broken p ≡ true
+  broken-above above = go (eachBelow (p .high + 1) (p .marks)) refl
+    where
+      go : (b : Bool) → eachBelow (p .high + 1) (p .marks) ≡ b → broken p ≡ true
+      go true e = broken-barrier (rw e at above)
+      go false e = broken-marks e
 
   pub broken-count : 32 < length (p .waiting) → broken p ≡ true
   unfolding broken

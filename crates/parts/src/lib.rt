@@ -12,7 +12,9 @@ use settling::settle;
 use slot_check::all_read;
 use slot_moves::gather;
 use slots::SLOTS;
+use std::num::wrapping_sub_u64;
 ghost use mathlib.Core.Path.{_≡_};
+ghost use mathlib.Core.Bool.{_&&_};
 ghost use Prim.Native.Nat.{_+_, _*_, _≤_};
 ghost use lib.ListN.{length};
 ghost use Rattle.frame.specs.Readable.{eachBelow};
@@ -20,6 +22,7 @@ ghost use Rattle.rules.specs.Sizes.{logRecordLength};
 ghost use Rattle.rules.specs.Refusals.{broken as isBroken};
 ghost use Rattle.slots.specs.Slots.{Slots, Listed, firstSlots};
 ghost use Rattle.settling.specs.Record.{left, stage};
+ghost use Rattle.parts.specs.Joined.{Joined};
 ghost use Rattle.parts.specs.Record.{parts, recordOf, SettlesSlots};
 
 // The bytes that an output needs: room for 33 log records.
@@ -35,22 +38,56 @@ pub struct Answer {
     pub number: u8,
 }
 
-// Whether each number is at most the limit. (It goes through all of them, upwards, so that the compiler
-// takes two at a time.)
+// Whether each number is at most the limit.
 fn each_at_most(numbers: &[u64], limit: u64) -> bool
     requires { ⌜ length (now numbers) ≡ 64 ⌝ }
     ensures { λ r. ⌜ r ≡ eachBelow (limit + 1) (now (numbers .entry)) ⌝ }
 {
-    let mut all = true;
     let mut i = 0;
     while i < 64 {
-        let number = numbers[i];
-        i += 1;
-        if limit < number {
-            all = false;
+        if limit < numbers[i] {
+            return false;
         }
+        i += 1;
+    }
+    true
+}
+
+// Half of the numbers that 64 bits hold.
+const HALF: u64 = 9223372036854775808;
+
+// All marks and barrier entries joined, and what the limit leaves beside each pair of them: it reaches half
+// of what 64 bits hold if one of them is above the limit. (It goes through all of them without a test, so
+// that the compiler takes two at a time.)
+fn joined(marks: &[u64], barrier: &[u64], limit: u64) -> u64
+    requires { ⌜ (length (now marks) ≡ 64) × (length (now barrier) ≡ 64) ⌝ }
+    ensures { λ r. ⌜ Joined limit (now (marks .entry)) (now (barrier .entry)) 64 r ⌝ }
+{
+    let mut all: u64 = 0;
+    let mut i = 0;
+    while i < 64 {
+        let pair = marks[i] | barrier[i];
+        all = all | (pair | wrapping_sub_u64(limit, pair));
+        i += 1;
     }
     all
+}
+
+// Whether no mark and no barrier entry is above the limit. At a panel that a list of demand 3 reaches one look
+// at all of them says so: there a barrier entry is its panel's mark, or 0.
+fn none_above(marks: &[u64], barrier: &[u64], limit: u64) -> bool
+    requires { ⌜ (length (now marks) ≡ 64) × (length (now barrier) ≡ 64) ⌝ }
+    ensures { λ r. ⌜ r ≡ (eachBelow (limit + 1) (now (marks .entry)) && eachBelow (limit + 1) (now (barrier .entry))) ⌝ }
+{
+    if joined(marks, barrier, limit) < HALF {
+        if limit < HALF {
+            return true;
+        }
+    }
+    if !each_at_most(marks, limit) {
+        return false;
+    }
+    each_at_most(barrier, limit)
 }
 
 // Whether 26 applies. (Marks and barrier are slices here: where an array is lent as a slice, the prover
@@ -69,10 +106,7 @@ pub fn broken<'a>(
     if 63 < own {
         return true;
     }
-    if !each_at_most(marks, high) {
-        return true;
-    }
-    if !each_at_most(barrier, high) {
+    if !none_above(marks, barrier, high) {
         return true;
     }
     // (Two calls: so the compiler keeps all_read a function of its own, and the tests above stand in each call.)

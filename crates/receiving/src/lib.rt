@@ -13,6 +13,7 @@ use settling::Settling;
 use slot_moves::put_frame;
 use slots::SLOTS;
 use slots::in_order;
+use slots::mask;
 use widening::first;
 use widening::widen;
 ghost use mathlib.Core.Path.{_≡_};
@@ -49,7 +50,7 @@ fn take(
         (now (slots .entry)) (stage s (firstSlots 32) (now (marks .entry)) (now (barrier .entry)) (now (output .entry)))
         (now (slots .exit)) (stage r (firstSlots 32) (now (marks .exit)) (now (barrier .exit)) (now (output .exit))) ⌝ }
 {
-    let tested = ready(frame, marks, s.time, s.floor);
+    let tested = ready(frame, mask(frame), marks, s.time, s.floor);
     if tested.ready {
         let mut rest = s;
         let mut floor = s.floor;

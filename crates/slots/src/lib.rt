@@ -3,13 +3,14 @@
 // hold readable frames; the calls of a panel refuse any other record.
 use frame::BUFFER;
 use frame::DEADLINE_AT;
+use frame::MASK_AT;
 use frame::WIDTH;
 use numbers::number_at;
 ghost use mathlib.Core.Path.{_≡_};
 ghost use mathlib.Core.Bool.{_&&_};
 ghost use Prim.Native.Nat.{_<_};
 ghost use lib.Dec.{eqb};
-ghost use Rattle.frame.specs.Reading.{messageIn};
+ghost use Rattle.frame.specs.Reading.{maskIn, messageIn};
 ghost use Rattle.rules.specs.Sizes.{width};
 ghost use Rattle.rules.specs.Panel.{hasLapsed};
 ghost use Rattle.rules.specs.Refusals.{isWaiting as waits};
@@ -41,7 +42,7 @@ pub fn kept_frame(slots: &[u8], slot: usize) -> &[u8]
     &slots[start..end]
 }
 
-// The source and the deadline of a readable frame.
+// The source, the deadline and the mask of a readable frame.
 pub fn source(frame: &[u8]) -> u8
     requires { ⌜ Reads (now frame) ⌝ }
     ensures { λ r. ⌜ r ≡ messageIn width (now (frame .entry)) .source ⌝ }
@@ -54,6 +55,13 @@ pub fn deadline(frame: &[u8]) -> u64
     ensures { λ r. ⌜ r ≡ messageIn width (now (frame .entry)) .deadline ⌝ }
 {
     number_at(frame, DEADLINE_AT, WIDTH)
+}
+
+pub fn mask(frame: &[u8]) -> u64
+    requires { ⌜ Reads (now frame) ⌝ }
+    ensures { λ r. ⌜ r ≡ maskIn width (now (frame .entry)) ⌝ }
+{
+    number_at(frame, MASK_AT, 8)
 }
 
 // Whether the message of a readable frame has that source and deadline.

@@ -8,6 +8,7 @@ use frame::frame_check;
 use frame::is_narrow;
 use parts::broken;
 use slots::SLOTS;
+use slots::mask;
 use widening::first;
 use widening::widen;
 ghost use mathlib.Core.Path.{_≡_};
@@ -63,7 +64,7 @@ fn trace_wide<'a, 'b>(
             number: unread_number(broken, unread),
         };
     }
-    let tested = ready(frame, marks, time, floor);
+    let tested = ready(frame, mask(frame), marks, time, floor);
     if broken {
         return Trace {
             visited: tested.visited,

@@ -19,20 +19,23 @@ isReady c = ready (asking (now (c .args .marks)) (c .args .time) (c .args .floor
 returns : tie.Need-returns
 returns c = let s = c .before .before in full-room (s .args .count) (isReady s) (omega (arith, c .if1 .taken))
 
+mask-requires : tie.Need-mask-requires
+mask-requires c κs = search needs
+
 ready-requires : tie.Need-ready-requires
 ready-requires c κs = search needs
 
 returns-2 : tie.Need-returns-2
 returns-2 c =
     let tested = c .before in
-    let s = tested .before .before .before in
+    let s = tested .before .before .before .before in
     full-ready (s .args .count) (isReady s) (sym (tested .ready .ensures .0) ∙ c .if2 .taken)
 
 returns-3 : tie.Need-returns-3
 returns-3 c =
     let tested = c .before in
-    let s = tested .before .before .before in
-    full-unready (s .args .count) (isReady s) (omega (arith, tested .before .if1 .left)) (sym (tested .ready .ensures .0) ∙ c .if2 .left)
+    let s = tested .before .before .before .before in
+    full-unready (s .args .count) (isReady s) (omega (arith, tested .before .before .if1 .left)) (sym (tested .ready .ensures .0) ∙ c .if2 .left)
 
 pub place-number-spec : {M : Type 1} → statement M
-place-number-spec = tie.close (tie.spec returns ready-requires returns-2 returns-3)
+place-number-spec = tie.close (tie.spec returns mask-requires ready-requires returns-2 returns-3)

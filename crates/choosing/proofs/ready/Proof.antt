@@ -10,7 +10,6 @@ use denote.Ref.{now}
 use lib.ListN.{length, getD}
 use lib.Bits.{and-le-r}
 use Rattle.numbers.specs.Numbers.{numberAt}
-use Rattle.frame.proofs.Passed.{zero-passed}
 use Rattle.rules.specs.Sizes.{width}
 use Rattle.slots.proofs.SetBits.{next}
 use Rattle.slots.proofs.Walk.{turn-lt, turn-room}
@@ -19,27 +18,24 @@ use Rattle.choosing.proofs.ready.Statement.{statement}
 use Rattle.choosing.proofs.ready.Tie as tie
 
 abbrev Inv-loop : tie.InvT-loop
-Inv-loop frame marks time floor bits₀ visited₀ bits visited = MetBelow frame marks time floor bits visited
+Inv-loop frame mask marks time floor bits₀ visited₀ bits visited = MetBelow frame marks time floor bits visited
 
 abbrev μ-loop : tie.MeasureT-loop
-μ-loop frame marks time floor bits₀ visited₀ bits visited = bits
-
-number-at-requires : tie.Need-number-at-requires Inv-loop μ-loop
-number-at-requires c κs = omega (arith, zero-passed width _ (c .before .pre) .room)
+μ-loop frame mask marks time floor bits₀ visited₀ bits visited = bits
 
 loop-holds : tie.Need-loop-holds Inv-loop μ-loop
 loop-holds c =
-    let a = c .before .before .args in
-    let mask = c .number-at .ensures .0 in
+    let a = c .before .args in
+    let mask = c .before .pre .1 in
     subst (λ (bits : ℕ). MetBelow (now (a .frame)) (now (a .marks)) (a .time) (a .floor) bits 0) (sym mask)
-    (met-start (now (a .frame)) (now (a .marks)) (a .time) (a .floor) (subst (λ (bits : ℕ). bits < 2 ^ 64) mask (c .number-at .ensures .1)))
+    (met-start (now (a .frame)) (now (a .marks)) (a .time) (a .floor) (subst (λ (bits : ℕ). bits < 2 ^ 64) mask (omega arith)))
 
 -- in a turn the panel is one of 64, and its entry stands within the frame
 below : (c : tie.In-loop Inv-loop μ-loop) → next (c .before .loop .bits) < 64
 below c = turn-lt (c .before .loop .inv .walk) (c .loop-test .taken)
 
-room : (c : tie.In-loop Inv-loop μ-loop) → 14 + width + width * c .before .loop .visited + width ≤ length (now (c .before .before .before .before .args .frame))
-room c = turn-room (c .before .loop .inv .walk) (c .loop-test .taken) (c .before .before .before .before .pre)
+room : (c : tie.In-loop Inv-loop μ-loop) → 14 + width + width * c .before .loop .visited + width ≤ length (now (c .before .before .before .args .frame))
+room c = turn-room (c .before .loop .inv .walk) (c .loop-test .taken) (c .before .before .before .pre .0)
 
 cast-panel : tie.Need-cast-panel Inv-loop μ-loop
 cast-panel c = omega (arith, below c)
@@ -50,8 +46,8 @@ mul-number-at c = search (needs, room c)
 add-number-at : tie.Need-add-number-at Inv-loop μ-loop
 add-number-at c = search (needs, room c)
 
-number-at-requires-2 : tie.Need-number-at-requires-2 Inv-loop μ-loop
-number-at-requires-2 c κs = omega (arith, room c)
+number-at-requires : tie.Need-number-at-requires Inv-loop μ-loop
+number-at-requires c κs = omega (arith, room c)
 
 add-with-this : tie.Need-add-with-this Inv-loop μ-loop
 add-with-this c = search (needs, room (c .before))
@@ -67,16 +63,16 @@ is-met-requires c κs = tt
 
 -- the entry was read from its place, and tested beside the mark of its panel
 tested : (c : tie.After-is-met Inv-loop μ-loop) → let l = c .before .before .before .before .loop in
-    let a = c .before .before .before .before .before .before .before .args in
+    let a = c .before .before .before .before .before .before .args in
     metBy (getD (now (a .marks)) (next (l .bits)) 0) (a .time) (a .floor) (numberAt (now (a .frame)) (14 + width + width * l .visited) width) ≡ c .is-met .result
-tested c = rw (← c .before .before .number-at2 .ensures .0) (sym (c .is-met .ensures))
+tested c = rw (← c .before .before .number-at .ensures .0) (sym (c .is-met .ensures))
 
 returns : tie.Need-returns Inv-loop μ-loop
 returns c =
     let turn = c .before .before .before .before in
     let unmet = tested (c .before) ∙ not-true _ (c .if1 .taken) in (
       sym (stop-ready _ _ _ _ _ _ (turn .before .loop .inv) (turn .loop-test .taken) unmet),
-      stop-visits _ _ _ _ _ _ (turn .before .loop .inv) (turn .loop-test .taken) (turn .before .before .before .before .pre) unmet,
+      stop-visits _ _ _ _ _ _ (turn .before .loop .inv) (turn .loop-test .taken) (turn .before .before .before .pre .0) unmet,
     )
 
 sub-bits : tie.Need-sub-bits Inv-loop μ-loop
@@ -96,7 +92,7 @@ loop-again c =
 returns-2 : tie.Need-returns-2 Inv-loop μ-loop
 returns-2 c = (
   sym (end-ready _ _ _ _ _ _ (c .before .loop .inv) (c .loop-test .left)),
-  end-visits _ _ _ _ _ _ (c .before .loop .inv) (c .loop-test .left) (c .before .before .before .before .pre),
+  end-visits _ _ _ _ _ _ (c .before .loop .inv) (c .loop-test .left) (c .before .before .before .pre .0),
 )
 
 pub ready-spec : {M : Type 1} → statement M
@@ -105,12 +101,11 @@ ready-spec =
     (tie.spec
     Inv-loop
     μ-loop
-    number-at-requires
     loop-holds
     cast-panel
     mul-number-at
     add-number-at
-    number-at-requires-2
+    number-at-requires
     add-with-this
     mul-is-met
     element-copy-out-is-met

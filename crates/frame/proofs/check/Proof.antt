@@ -76,7 +76,7 @@ earlier c =
     let s = start2 (c .before .before) in
     let w = s .args .width in
     c .each-earlier .ensures
-    ∙ ap₂ (λ (d n : ℕ). eachEarlier d (numbersAt (bytes s) (14 + w) w n)) (c .before .entry-at .ensures)
+    ∙ ap₂ (λ (d n : ℕ). eachEarlier d (numbersAt (bytes s) (14 + w) w n)) (c .before .deadline-in .ensures)
     (c .before .before .before .entry-count .ensures .0)
 
 past3 : (c : tie.Else3) → Past (table (start3 c)) 8
@@ -148,11 +148,11 @@ returns-2 c =
     stop (table s) 6 (past1 (c .before .before))
     (lt-ltb (length (bytes s)) (payloadPlace (s .args .width) (bytes s)) (omega (arith, spans (c .before))))
 
-entry-at-requires : tie.Need-entry-at-requires
-entry-at-requires c κs = omega (arith, long (c .before .before))
+deadline-in-requires : tie.Need-deadline-in-requires
+deadline-in-requires c κs = omega (arith, long (c .before .before))
 
 each-earlier-requires : tie.Need-each-earlier-requires
-each-earlier-requires c κs = (search needs, omega arith, omega (arith, due (c .before .before .before), c .entry-at .ensures))
+each-earlier-requires c κs = (search needs, omega arith, omega (arith, due (c .before .before .before), c .deadline-in .ensures))
 
 returns-3 : tie.Need-returns-3
 unfolding checks
@@ -211,7 +211,7 @@ check-spec =
     mul-start
     add-start-2
     returns-2
-    entry-at-requires
+    deadline-in-requires
     each-earlier-requires
     returns-3
     sub-length

@@ -108,15 +108,15 @@ returns-5 c =
     let bs = bytes (start4 p) in
     stop (head (start4 p)) 4 (past4 p) (lt-ltb 63 (sourceIn bs) (omega (arith, numberAt-one bs 5 (omega arith))))
 
-entry-at-requires : tie.Need-entry-at-requires
-entry-at-requires c κs = search needs
+deadline-in-requires : tie.Need-deadline-in-requires
+deadline-in-requires c κs = search needs
 
 returns-6 : tie.Need-returns-6
 unfolding checks
 returns-6 c =
     let p = c .before .before in
     stop (head (start5 p)) 5 (past5 p)
-    (eq-eqb (deadlineIn (start5 p .args .width) (bytes (start5 p))) 0 (omega (arith, c .before .entry-at .ensures)))
+    (eq-eqb (deadlineIn (start5 p .args .width) (bytes (start5 p))) 0 (omega (arith, c .before .deadline-in .ensures)))
 
 returns-7 : tie.Need-returns-7
 unfolding checks firstOf
@@ -124,7 +124,7 @@ returns-7 c =
     let p = c .before .before in
     sym
     (pass (head (start5 p)) 5 (past5 p)
-    (ne-eqb (deadlineIn (start5 p .args .width) (bytes (start5 p))) 0 (omega (arith, c .before .entry-at .ensures, c .if6 .left))))
+    (ne-eqb (deadlineIn (start5 p .args .width) (bytes (start5 p))) 0 (omega (arith, c .before .deadline-in .ensures, c .if6 .left))))
 
 pub head-check-spec : {M : Type 1} → statement M
 head-check-spec =
@@ -139,6 +139,6 @@ head-check-spec =
     returns-4
     shared-slice-read-if5
     returns-5
-    entry-at-requires
+    deadline-in-requires
     returns-6
     returns-7)

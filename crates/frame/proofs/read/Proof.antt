@@ -59,8 +59,8 @@ entries-by-panel-requires c κs =
 shared-slice-read-t10 : tie.Need-shared-slice-read-t10
 shared-slice-read-t10 c = omega (arith, passed (c .before .before .before) .long)
 
-entry-at-requires : tie.Need-entry-at-requires
-entry-at-requires c κs =
+deadline-in-requires : tie.Need-deadline-in-requires
+deadline-in-requires c κs =
     let picked = c .before .before .before in omega (arith, picked .width-in .ensures, passed picked .room)
 
 add-t8 : tie.Need-add-t8
@@ -93,7 +93,7 @@ returns-2 : tie.Need-returns-2
 unfolding messageIn
 returns-2 c =
     let count = c .before .entry-count in
-    let deadline = c .before .before .entry-at .ensures in
+    let deadline = c .before .before .deadline-in .ensures in
     let laid = c .before .before .before .before .entries-by-panel .ensures in
     let mask = c .before .before .before .before .before .number-at .ensures .0 in
     let at = picked (c .before) in
@@ -128,7 +128,7 @@ read-spec =
     number-at-requires
     entries-by-panel-requires
     shared-slice-read-t10
-    entry-at-requires
+    deadline-in-requires
     add-t8
     entry-count-requires
     mul-t13

@@ -12,7 +12,7 @@ use Rattle.receiving.proofs.take.Statement.{statement}
 use Rattle.receiving.proofs.take.Tie as tie
 
 abbrev start : tie.After-ready → tie.Start
-start c = c .before .before .before .before
+start c = c .before .before .before .before .before
 
 is-ready : (c : tie.After-ready) → let a = start c .args in
     ready (asking (now (a .marks)) (a .s .time) (a .s .floor)) (messageIn width (now (a .frame))) ≡ c .ready .result .ready
@@ -20,6 +20,9 @@ is-ready c = sym (c .ready .ensures .0)
 
 few : (c : tie.Else1) → start (c .before) .args .s .waiting < 32
 few c = room-unready _ _ _ (start (c .before) .pre .1 .0) (is-ready (c .before) ∙ c .if1 .left)
+
+mask-requires : tie.Need-mask-requires
+mask-requires c κs = search needs
 
 ready-requires : tie.Need-ready-requires
 ready-requires c κs = search needs
@@ -59,6 +62,7 @@ pub take-spec : {M : Type 1} → statement M
 take-spec =
     tie.close
     (tie.spec
+    mask-requires
     ready-requires
     hand-requires
     add-rest

@@ -51,13 +51,13 @@ same c = sym (wide-message (now (start (c .before) .args .frame)) (start (c .bef
 
 -- what the test for ready answered
 abbrev asked : tie.After-ready → Record
-asked c = let a = start (c .before .before) .args in asking (now (a .marks)) (a .time) (a .floor)
+asked c = let a = start (c .before .before .before) .args in asking (now (a .marks)) (a .time) (a .floor)
 
-is-ready : (c : tie.After-ready) → c .ready .result .ready ≡ ready (asked c) (messageFrom (now (start (c .before .before) .args .frame)))
-is-ready c = c .ready .ensures .0 ∙ ap (ready (asked c)) (same (c .before))
+is-ready : (c : tie.After-ready) → c .ready .result .ready ≡ ready (asked c) (messageFrom (now (start (c .before .before .before) .args .frame)))
+is-ready c = c .ready .ensures .0 ∙ ap (ready (asked c)) (same (c .before .before))
 
-counted : (c : tie.After-ready) → c .ready .result .visited ≡ visits (asked c) (messageFrom (now (start (c .before .before) .args .frame)))
-counted c = c .ready .ensures .1 ∙ ap (λ (m : Message). visits (asked c) m) (same (c .before))
+counted : (c : tie.After-ready) → c .ready .result .visited ≡ visits (asked c) (messageFrom (now (start (c .before .before .before) .args .frame)))
+counted c = c .ready .ensures .1 ∙ ap (λ (m : Message). visits (asked c) m) (same (c .before .before))
 
 broken-requires : tie.Need-broken-requires
 broken-requires c κs = search needs
@@ -76,36 +76,39 @@ returns c =
     let number = c .unread-number .ensures ∙ number-unread (given at) bytes _ _ (is-broken at) (at .frame-check .ensures) unread in
     shown-unread (given at) bytes _ number (λ read. unread (at .frame-check .ensures ∙ read))
 
+mask-requires : tie.Need-mask-requires
+mask-requires c κs = wide c
+
 ready-requires : tie.Need-ready-requires
-ready-requires c κs = wide c
+ready-requires c κs = (wide (c .before), c .mask .ensures)
 
 returns-2 : tie.Need-returns-2
 returns-2 c =
     let tested = c .before in
-    let at = tested .before .before in
+    let at = tested .before .before .before in
     let bytes = now (start at .args .frame) in
     shown-read (given at) bytes 26 (number-broken (given at) bytes (sym (is-broken at) ∙ c .if2 .taken))
-    (reads (tested .before)) _ _ (is-ready tested) (counted tested)
+    (reads (tested .before .before)) _ _ (is-ready tested) (counted tested)
 
 -- 26 does not apply
-whole : (c : tie.Else2) → broken (given (c .before .before .before)) ≡ false
-whole c = sym (is-broken (c .before .before .before)) ∙ c .if2 .left
+whole : (c : tie.Else2) → broken (given (c .before .before .before .before)) ≡ false
+whole c = sym (is-broken (c .before .before .before .before)) ∙ c .if2 .left
 
 message-number-requires : tie.Need-message-number-requires
 message-number-requires c κs =
     let tested = c .before .before in
-    let at = tested .before .before in
-    (wide (tested .before), search needs, valid-kept (lent at) (broken-false (given at) (whole (c .before))))
+    let at = tested .before .before .before in
+    (wide (tested .before .before), search needs, valid-kept (lent at) (broken-false (given at) (whole (c .before))))
 
 returns-3 : tie.Need-returns-3
 returns-3 c =
     let tested = c .before .before .before in
-    let at = tested .before .before in
+    let at = tested .before .before .before in
     let bytes = now (start at .args .frame) in
-    let read = reads (tested .before) in
+    let read = reads (tested .before .before) in
     let number = c .message-number .ensures
     ∙ ap firstOf (checks-asking _ _ _ _ _ _ _ _ _)
-    ∙ ap (λ (m : Message). firstOf (messageChecks (given at) m)) (same (tested .before))
+    ∙ ap (λ (m : Message). firstOf (messageChecks (given at) m)) (same (tested .before .before))
     ∙ number-read (given at) bytes (whole (c .before .before)) read in
     shown-read (given at) bytes _ number read _ _ (is-ready tested) (counted tested)
 
@@ -117,6 +120,7 @@ trace-wide-spec =
     frame-check-requires
     unread-number-requires
     returns
+    mask-requires
     ready-requires
     returns-2
     message-number-requires

@@ -3,6 +3,7 @@
 // these are the next bytes of the listing.
 use listing::list_part;
 use listing::start;
+use slots::SLOTS;
 ghost use mathlib.Core.Path.{_≡_};
 ghost use Prim.Native.Nat.{_+_};
 ghost use lib.ListN.{length};
@@ -22,19 +23,37 @@ fn write_part<'a, 'b>(input: &'a [u8], written: usize, part: &'b [u8]) -> usize
     written + part.len()
 }
 
-// Writes the listing part after part until nothing is left, and gives its length. Of an input
-// above the longest bundle it is only `long`.
+// Writes the listing part after part until nothing is left, and gives its length. The panel is a fresh
+// one, number 0, at time 0. Of an input above the longest bundle it is only `long`.
 fn print_listing(input: &[u8]) -> usize
     ensures { λ r. ⌜ r ≡ length (listingOf (now (input .entry))) ⌝ }
 {
     if LONGEST < input.len() {
         return write_part(input, 0, b"long\n");
     }
+    let mut high = 0;
+    let mut count = 0;
+    let mut marks = [0u64; 64];
+    let mut barrier = [0u64; 64];
+    let mut slots = [0u8; SLOTS];
+    let mut floor = 0;
     let mut text = [0u8; 16384];
     let mut listing = start();
     let mut written = 0;
     while listing.more {
-        listing = list_part(input, listing, &mut text);
+        listing = list_part(
+            0,
+            0,
+            &mut high,
+            &mut count,
+            &mut marks,
+            &mut barrier,
+            &mut slots,
+            &mut floor,
+            input,
+            listing,
+            &mut text,
+        );
         let at = listing.at;
         written = write_part(input, written, &text[..at]);
     }

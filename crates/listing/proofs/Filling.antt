@@ -10,8 +10,8 @@ use Rattle.text.specs.Put.{Put}
 use Rattle.text.proofs.Puts.{put-nil, put-put}
 use Rattle.listing.specs.declared.Listing.{Listing}
 use Rattle.listing.specs.Listing.{linesAt, stateAfter, linesFrom}
-use Rattle.listing.specs.Step.{stateOf, stepRoom, Placed, Stepped}
-use Rattle.listing.specs.Part.{linesLeft, PartPut}
+use Rattle.listing.specs.Step.{Standing, stateOf, stepRoom, Placed, Stepped}
+use Rattle.listing.specs.Part.{linesLeft, partIn, PartPut}
 use Rattle.listing.proofs.Stepping.{never}
 use Rattle.listing.proofs.Theorems.{linesFrom-enough}
 
@@ -34,39 +34,39 @@ fewer bundle given l on further within = go (given .more) (l .more) on further
 -- ---- what is left
 
 -- before a step: its lines, and what is left after it
-left-step : (bundle : List ℕ) (given l : Listing) {text after : List ℕ} → given .more ≡ true → Stepped bundle given text l after
-    → linesLeft bundle given ≡ linesAt bundle (stateOf given) ++ linesLeft bundle l
+left-step : (bundle : List ℕ) (given s : Standing) {text after : List ℕ} → given .more ≡ true → Stepped bundle given text s after
+    → linesLeft bundle given ≡ linesAt bundle (stateOf given) ++ linesLeft bundle s
 unfolding linesLeft linesFrom
-left-step bundle given l on stepped =
+left-step bundle given s on stepped =
     ap (λ (b : Bool). cond b (linesFrom (suc (length bundle)) bundle (stateOf given)) []) on
     ∙ ap (λ (rest : List ℕ). linesAt bundle (stateOf given) ++ rest)
-    (ap (λ (b : Bool). cond b (linesFrom (length bundle) bundle (stateAfter bundle (stateOf given))) []) (sym (stepped .more)) ∙ same (l .more) refl)
+    (ap (λ (b : Bool). cond b (linesFrom (length bundle) bundle (stateAfter bundle (stateOf given))) []) (sym (stepped .more)) ∙ same (s .more) refl)
   where
-    same : (more : Bool) → l .more ≡ more
+    same : (more : Bool) → s .more ≡ more
         → cond more (linesFrom (length bundle) bundle (stateAfter bundle (stateOf given))) []
-        ≡ cond more (linesFrom (suc (length bundle)) bundle (stateOf l)) []
+        ≡ cond more (linesFrom (suc (length bundle)) bundle (stateOf s)) []
     same true goes =
         ap (linesFrom (length bundle) bundle) (sym (stepped .state))
-        ∙ sym (linesFrom-enough (length bundle) bundle (stateOf l) (stepped .placed .within) (omega (arith, stepped .further goes)))
+        ∙ sym (linesFrom-enough (length bundle) bundle (stateOf s) (stepped .placed .within) (omega (arith, stepped .further goes)))
     same false goes = refl
 
 -- ---- the lines put so far
 
 -- a listing at the start of a buffer
-abbrev atStart : Listing → Listing
-atStart l = record { panel = l .panel; place = l .place; frames = l .frames; at = 0; more = l .more }
+abbrev atStart : Standing → Standing
+atStart s = record { panel = s .panel; place = s .place; frames = s .frames; at = 0; more = s .more }
 
-pub record Filling (bundle : List ℕ) (given : Listing) (text : List ℕ) (l : Listing) (after : List ℕ) : Type 0 where
+pub record Filling (bundle : List ℕ) (given : Standing) (text : List ℕ) (s : Standing) (after : List ℕ) : Type 0 where
   pub lines : List ℕ
-  pub put : Put text 0 lines after (l .at)
-  pub room : l .at ≤ length text
-  pub left : linesLeft bundle given ≡ lines ++ linesLeft bundle l
-  pub onward : l .more ≡ true → given .place ≤ l .place
-  pub further : l .more ≡ true → 0 < l .at → given .place < l .place
-  pub placed : Placed bundle l
+  pub put : Put text 0 lines after (s .at)
+  pub room : s .at ≤ length text
+  pub left : linesLeft bundle given ≡ lines ++ linesLeft bundle s
+  pub onward : s .more ≡ true → given .place ≤ s .place
+  pub further : s .more ≡ true → 0 < s .at → given .place < s .place
+  pub placed : Placed bundle (s .place) (s .frames)
 
 -- none yet
-pub filling-none : {bundle : List ℕ} {given : Listing} {text : List ℕ} → given .at ≡ 0 → Placed bundle given → Filling bundle given text given text
+pub filling-none : {bundle : List ℕ} {given : Standing} {text : List ℕ} → given .at ≡ 0 → Placed bundle (given .place) (given .frames) → Filling bundle given text given text
 filling-none {bundle} {given} {text} first placed =
     record {
       lines = [];
@@ -79,38 +79,38 @@ filling-none {bundle} {given} {text} first placed =
     }
 
 -- those of one step more
-pub filling-step : {bundle : List ℕ} {given : Listing} {text : List ℕ} {l : Listing} {now : List ℕ} {next : Listing} {after : List ℕ} → l .more ≡ true
-    → Filling bundle given text l now
-    → l .at + stepRoom ≤ length text
-    → Stepped bundle l now next after
+pub filling-step : {bundle : List ℕ} {given : Standing} {text : List ℕ} {s : Standing} {now : List ℕ} {next : Standing} {after : List ℕ} → s .more ≡ true
+    → Filling bundle given text s now
+    → s .at + stepRoom ≤ length text
+    → Stepped bundle s now next after
     → Filling bundle given text next after
-filling-step {bundle} {given} {text} {l} {now} {next} {after} on filling room stepped =
+filling-step {bundle} {given} {text} {s} {now} {next} {after} on filling room stepped =
     record {
-      lines = filling .lines ++ linesAt bundle (stateOf l);
+      lines = filling .lines ++ linesAt bundle (stateOf s);
       put = put-put (omega arith) (filling .put) (stepped .lines);
       room = omega (arith, stepped .short);
       left =
           filling .left
-          ∙ ap (λ (rest : List ℕ). filling .lines ++ rest) (left-step bundle l next on stepped)
-          ∙ sym (append-assoc (filling .lines) (linesAt bundle (stateOf l)) (linesLeft bundle next));
+          ∙ ap (λ (rest : List ℕ). filling .lines ++ rest) (left-step bundle s next on stepped)
+          ∙ sym (append-assoc (filling .lines) (linesAt bundle (stateOf s)) (linesLeft bundle next));
       onward = λ goes. omega (arith, filling .onward on, stepped .further goes);
       further = λ goes _. omega (arith, filling .onward on, stepped .further goes);
       placed = stepped .placed;
     }
 
 -- the part put
-pub filled : {bundle : List ℕ} {given : Listing} {text : List ℕ} {l : Listing} {after : List ℕ} → Filling bundle (atStart given) text l after
-    → (l .more ≡ true → length text < l .at + stepRoom)
-    → PartPut bundle given text l after
+pub filled : {bundle : List ℕ} {given : Standing} {text : List ℕ} {s : Standing} {after : List ℕ} → Filling bundle (atStart given) text s after
+    → (s .more ≡ true → length text < s .at + stepRoom)
+    → PartPut bundle given text s after
 unfolding linesLeft
-filled {bundle} {given} {text} {l} {after} filling full =
+filled {bundle} {given} {text} {s} {after} filling full =
     let put = filling .put in
-    let part : take (l .at) after ≡ filling .lines =
-    let size : l .at ≡ length (filling .lines) = omega (arith, put .place) in
+    let part : partIn after s ≡ filling .lines =
+    let size : s .at ≡ length (filling .lines) = omega (arith, put .place) in
     ap (λ (n : ℕ). take n after) size ∙ ap (take (length (filling .lines))) (put .bytes) ∙ take-over text (filling .lines) in
     record {
       put = rw part put;
-      lines = filling .left ∙ ap (λ (p : List ℕ). p ++ linesLeft bundle l) (sym part);
+      lines = filling .left ∙ ap (λ (p : List ℕ). p ++ linesLeft bundle s) (sym part);
       full = full;
       further = λ goes room. filling .further goes (omega (arith, full goes));
       placed = filling .placed;

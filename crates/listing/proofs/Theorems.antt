@@ -18,10 +18,9 @@ use Rattle.rules.proofs.BenchCases.{callsOpened}
 use Rattle.log_records.specs.LogRecords.{logRecordAt, isWhole, fieldsIn, payloadIn}
 use Rattle.text.specs.Text.{ascii, digit, decimalIn, hexadecimal}
 use Rattle.lines.specs.Lines.{item, outcome, frameLine, payloadText, handLine, handLines}
-use Rattle.listing.specs.declared.Listing.{Listing}
 use Rattle.listing.specs.Listing.{State, start, received, linesAt, onward, stateAfter, goesOn, linesFrom, longest, listing}
-use Rattle.listing.specs.Step.{stateOf}
-use Rattle.listing.specs.Part.{linesLeft, PartPut, PartsPut}
+use Rattle.listing.specs.Step.{Standing, stateOf}
+use Rattle.listing.specs.Part.{linesLeft, partIn, PartPut, PartsPut}
 use Rattle.listing.specs.Part.PartsPut.{no-part, one-more}
 
 -- whoever unfolds this unfolds all that a listing is computed by
@@ -75,35 +74,35 @@ linesFrom-enough (suc most) bundle s within few =
 -- ---- the parts are together the whole
 
 -- what was put and what is left
-pub parts-left : {bundle parts : List ℕ} {l : Listing} → length bundle ≤ longest → PartsPut bundle parts l → parts ++ linesLeft bundle l ≡ listing bundle
+pub parts-left : {bundle parts : List ℕ} {s : Standing} → length bundle ≤ longest → PartsPut bundle parts s → parts ++ linesLeft bundle s ≡ listing bundle
 unfolding listing linesLeft
 parts-left {bundle} short (no-part begun on) =
     ap₂ (λ (b : Bool) (s : State). cond b (linesFrom (suc (length bundle)) bundle s) []) on begun
     ∙ ap (λ (b : Bool). cond b (ascii "long\n") (linesFrom (suc (length bundle)) bundle start)) (sym (le-ltb longest (length bundle) short))
-parts-left {bundle} short (one-more {parts} {given} {text} {l} {after} before part) =
-    append-assoc parts (take (l .at) after) (linesLeft bundle l)
+parts-left {bundle} short (one-more {parts} {given} {text} {s} {after} before part) =
+    append-assoc parts (partIn after s) (linesLeft bundle s)
     ∙ ap (λ (rest : List ℕ). parts ++ rest) (sym (part .lines))
     ∙ parts-left short before
 
 -- each part stands in the listing behind the parts before it
-pub part-in-listing : {bundle parts : List ℕ} {given : Listing} {text : List ℕ} {l : Listing} {after : List ℕ} → length bundle ≤ longest
+pub part-in-listing : {bundle parts : List ℕ} {given : Standing} {text : List ℕ} {s : Standing} {after : List ℕ} → length bundle ≤ longest
     → PartsPut bundle parts given
-    → PartPut bundle given text l after
-    → take (length (take (l .at) after)) (drop (length parts) (listing bundle)) ≡ take (l .at) after
-part-in-listing {bundle} {parts} {given} {text} {l} {after} short before part =
-    let whole : parts ++ (take (l .at) after ++ linesLeft bundle l) ≡ listing bundle =
+    → PartPut bundle given text s after
+    → take (length (partIn after s)) (drop (length parts) (listing bundle)) ≡ partIn after s
+part-in-listing {bundle} {parts} {given} {text} {s} {after} short before part =
+    let whole : parts ++ (partIn after s ++ linesLeft bundle s) ≡ listing bundle =
     ap (λ (rest : List ℕ). parts ++ rest) (sym (part .lines)) ∙ parts-left short before in
-    ap (λ (w : List ℕ). take (length (take (l .at) after)) (drop (length parts) w)) (sym whole)
-    ∙ ap (take (length (take (l .at) after))) (drop-at parts (take (l .at) after ++ linesLeft bundle l) (length parts) refl)
-    ∙ take-at (take (l .at) after) (linesLeft bundle l) (length (take (l .at) after)) refl
+    ap (λ (w : List ℕ). take (length (partIn after s)) (drop (length parts) w)) (sym whole)
+    ∙ ap (take (length (partIn after s))) (drop-at parts (partIn after s ++ linesLeft bundle s) (length parts) refl)
+    ∙ take-at (partIn after s) (linesLeft bundle s) (length (partIn after s)) refl
 
 -- where nothing is left, the parts put are together the listing
-pub parts-are-listing : {bundle parts : List ℕ} {l : Listing} → length bundle ≤ longest → PartsPut bundle parts l → l .more ≡ false
+pub parts-are-listing : {bundle parts : List ℕ} {s : Standing} → length bundle ≤ longest → PartsPut bundle parts s → s .more ≡ false
     → parts ≡ listing bundle
 unfolding linesLeft
-parts-are-listing {bundle} {parts} {l} short put over =
+parts-are-listing {bundle} {parts} {s} short put over =
     sym (append-nil parts)
-    ∙ ap (λ (b : Bool). parts ++ cond b (linesFrom (suc (length bundle)) bundle (stateOf l)) []) (sym over)
+    ∙ ap (λ (b : Bool). parts ++ cond b (linesFrom (suc (length bundle)) bundle (stateOf s)) []) (sym over)
     ∙ parts-left short put
 
 -- of a longer one it is only `long`

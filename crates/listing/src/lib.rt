@@ -1,45 +1,40 @@
 // The listing of a bundle, part after part: a part is the lines that a lent buffer has room for, which
-// the program "list" writes. It is put step by step: each step receives one frame at a panel and puts
-// its lines. An internal crate. Precondition: a place in the bundle; of a step room too.
+// the program "list" writes. It is put step by step: each step receives one frame at a panel, in place,
+// and puts its lines. An internal crate. Precondition: a place in the bundle; of a step room too.
 use bundle::Step;
 use bundle::part_at;
 use bundle::step_at;
-use by_value::panel_receive;
 use lines::put_frame_line;
 use lines::put_hand_lines;
-use panel::Panel;
-use panel::panel_fresh;
 use parts::OUTPUT;
+use receiving::receive_in_place;
+use slots::SLOTS;
 use text::put_words;
 ghost use mathlib.Core.Path.{_≡_};
 ghost use mathlib.Core.Bool.{true};
 ghost use lib.ListN.{length};
+ghost use Rattle.parts.specs.Record.{parts, recordOf};
 ghost use Rattle.text.specs.Put.{Room};
-ghost use Rattle.listing.specs.Listing.{start as startState};
-ghost use Rattle.listing.specs.Step.{stateOf, Placed, Standing, Stepped, Ended};
+ghost use Rattle.listing.specs.Step.{stepRoom, standing, Placed, Stepped, Ended};
 ghost use Rattle.listing.specs.Part.{PartPut};
 
 // The bytes that the longest lines of a step have room in.
 const STEP_ROOM: usize = 4096;
 
-// Where the listing stands: the panel, the place in the bundle, the frames so far, the place behind
-// the text put so far, and whether it goes on.
+// Where the listing stands, beside its panel: the place in the bundle, the frames so far, the place
+// behind the text put so far, and whether it goes on.
 pub struct Listing {
-    pub panel: Panel,
     pub place: usize,
     pub frames: usize,
     pub at: usize,
     pub more: bool,
 }
 
-// A fresh panel 0 at time 0, at the start of a bundle and of a buffer.
+// At the start of a bundle and of a buffer.
 pub fn start() -> Listing
-    ensures { λ r. ⌜ (stateOf r ≡ startState) × (r .at ≡ 0) × (r .more ≡ true) ⌝ }
+    ensures { λ r. ⌜ (r .place ≡ 0) × (r .frames ≡ 0) × (r .more ≡ true) ⌝ }
 {
-    let fresh = panel_fresh(0);
-    let panel = fresh.panel;
     Listing {
-        panel,
         place: 0,
         frames: 0,
         at: 0,
@@ -53,9 +48,7 @@ fn last<'a, 'b>(listing: Listing, text: &'a mut [u8], line: &'b [u8]) -> Listing
     ensures { λ r. ⌜ Ended listing (now (text .entry)) (now (line .entry)) r (now (text .exit)) ⌝ }
 {
     let at = put_words(text, listing.at, line);
-    let panel = listing.panel;
     Listing {
-        panel,
         place: listing.place,
         frames: listing.frames,
         at,
@@ -64,9 +57,25 @@ fn last<'a, 'b>(listing: Listing, text: &'a mut [u8], line: &'b [u8]) -> Listing
 }
 
 // One step: the lines of the next frame, or the last line.
-fn list_next<'a, 'b>(bundle: &'a [u8], listing: Listing, text: &'b mut [u8]) -> Listing
-    requires { ⌜ Standing (now bundle) listing (now text) ⌝ }
-    ensures { λ r. ⌜ Stepped (now (bundle .entry)) listing (now (text .entry)) r (now (text .exit)) ⌝ }
+fn list_next(
+    own: u8,
+    time: u64,
+    high: &mut u64,
+    count: &mut usize,
+    marks: &mut [u64; 64],
+    barrier: &mut [u64; 64],
+    slots: &mut [u8; SLOTS],
+    floor: &mut u64,
+    bundle: &[u8],
+    listing: Listing,
+    text: &mut [u8],
+) -> Listing
+    requires { ⌜ Placed (now bundle) (listing .place) (listing .frames) × Room (now text) (listing .at) stepRoom ⌝ }
+    ensures { λ r. ⌜ Stepped (now (bundle .entry))
+        (standing (recordOf (parts own time (now (high .entry)) (now (count .entry)) (now (marks .entry)) (now (barrier .entry)) (now (slots .entry)) (now (floor .entry)))) listing)
+        (now (text .entry))
+        (standing (recordOf (parts own time (now (high .exit)) (now (count .exit)) (now (marks .exit)) (now (barrier .exit)) (now (slots .exit)) (now (floor .exit)))) r)
+        (now (text .exit)) ⌝ }
 {
     let place = listing.place;
     match step_at(bundle, place) {
@@ -76,14 +85,22 @@ fn list_next<'a, 'b>(bundle: &'a [u8], listing: Listing, text: &'b mut [u8]) -> 
             next,
         } => {
             let mut output = [0u8; OUTPUT];
-            let panel = listing.panel;
-            let received = panel_receive(panel, part_at(bundle, place), &mut output);
+            let answer = receive_in_place(
+                own,
+                time,
+                high,
+                count,
+                marks,
+                barrier,
+                slots,
+                floor,
+                part_at(bundle, place),
+                &mut output,
+            );
             let frames = listing.frames + 1;
-            let line = put_frame_line(text, listing.at, frames as u64, received.number);
-            let at = put_hand_lines(text, line, &output, received.count);
-            let panel = received.panel;
+            let line = put_frame_line(text, listing.at, frames as u64, answer.number);
+            let at = put_hand_lines(text, line, &output, answer.count);
             Listing {
-                panel,
                 place: next,
                 frames,
                 at,
@@ -97,9 +114,25 @@ fn list_next<'a, 'b>(bundle: &'a [u8], listing: Listing, text: &'b mut [u8]) -> 
 
 // Puts a part of the listing at the start of the buffer: the lines of step after step, while the
 // listing goes on and there is room for a step's lines. The listing then stands behind that part.
-pub fn list_part<'a, 'b>(bundle: &'a [u8], listing: Listing, text: &'b mut [u8]) -> Listing
-    requires { ⌜ Placed (now bundle) listing ⌝ }
-    ensures { λ r. ⌜ PartPut (now (bundle .entry)) listing (now (text .entry)) r (now (text .exit)) ⌝ }
+pub fn list_part(
+    own: u8,
+    time: u64,
+    high: &mut u64,
+    count: &mut usize,
+    marks: &mut [u64; 64],
+    barrier: &mut [u64; 64],
+    slots: &mut [u8; SLOTS],
+    floor: &mut u64,
+    bundle: &[u8],
+    listing: Listing,
+    text: &mut [u8],
+) -> Listing
+    requires { ⌜ Placed (now bundle) (listing .place) (listing .frames) ⌝ }
+    ensures { λ r. ⌜ PartPut (now (bundle .entry))
+        (standing (recordOf (parts own time (now (high .entry)) (now (count .entry)) (now (marks .entry)) (now (barrier .entry)) (now (slots .entry)) (now (floor .entry)))) listing)
+        (now (text .entry))
+        (standing (recordOf (parts own time (now (high .exit)) (now (count .exit)) (now (marks .exit)) (now (barrier .exit)) (now (slots .exit)) (now (floor .exit)))) r)
+        (now (text .exit)) ⌝ }
 {
     let mut part = listing;
     part.at = 0;
@@ -107,7 +140,19 @@ pub fn list_part<'a, 'b>(bundle: &'a [u8], listing: Listing, text: &'b mut [u8])
         if text.len() < part.at + STEP_ROOM {
             return part;
         }
-        part = list_next(bundle, part, text);
+        part = list_next(
+            own,
+            time,
+            high,
+            count,
+            marks,
+            barrier,
+            slots,
+            floor,
+            bundle,
+            part,
+            text,
+        );
     }
     part
 }

@@ -11,7 +11,7 @@ same-length : tie.Need-same-length
 same-length c = search needs
 
 returns : tie.Need-returns
-returns c = record { lines = c .before .before .before .put-words .ensures; state = refl; more = refl }
+returns c = record { lines = c .before .before .put-words .ensures; place = refl; frames = refl; more = refl }
 
 pub last-spec : {M : Type 1} → statement M
 last-spec = tie.close (tie.spec put-words-requires same-length returns)

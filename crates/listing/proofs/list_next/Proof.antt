@@ -17,10 +17,12 @@ told : (c : tie.After-next)
     ≡ Frame (c .next .given .0 .0) (c .next .given .0 .1 .0) (c .next .given .0 .1 .1 .0)
 told c = sym (c .before .before .step-at .ensures) ∙ c .next .given .1
 
-few : (c : tie.After-panel-receive) → c .panel-receive .result .count ≤ 33
+few : (c : tie.After-receive-in-place) → c .receive-in-place .result .count ≤ 33
 few c =
-    few-handed _ (c .before .before .before .before .before .before .before .before .before .before .args .listing) (told (c .before .before .before .before .before)) (c .panel-receive .result) _ _ (c .before .before .part-at .ensures .bytes)
-    (c .panel-receive .ensures .0)
+    let framed = c .before .before .before .before .before .before .before .before .before .before in
+    few-handed _ _ (framed .before .before .before .before .before .args .listing) (told framed) (c .receive-in-place .result) _ _ _
+    (c .before .before .part-at .ensures .bytes)
+    (c .receive-in-place .ensures .0)
 
 step-at-requires : tie.Need-step-at-requires
 step-at-requires c κs = search needs
@@ -31,14 +33,16 @@ enum-known-next c = search needs
 part-at-requires : tie.Need-part-at-requires
 part-at-requires c κs = search needs
 
-slice-aggregate-panel-receive : tie.Need-slice-aggregate-panel-receive
-slice-aggregate-panel-receive c = search needs
+slice-aggregate-receive-in-place : tie.Need-slice-aggregate-receive-in-place
+slice-aggregate-receive-in-place c = search needs
 
-panel-receive-requires : tie.Need-panel-receive-requires
-panel-receive-requires c κs = search needs
+receive-in-place-requires : tie.Need-receive-in-place-requires
+receive-in-place-requires c κs = search needs
 
 add-frames : tie.Need-add-frames
-add-frames c = search needs
+add-frames c =
+    let start = c .before .before .before .before .before .before .before .before .before .before .before .before .before .before .before .before .before in
+    search (needs, start .pre .0 .few, start .pre .0 .within)
 
 put-frame-line-requires : tie.Need-put-frame-line-requires
 put-frame-line-requires c κs = search needs
@@ -49,9 +53,9 @@ slice-aggregate-put-hand-lines c = search needs
 put-hand-lines-requires : tie.Need-put-hand-lines-requires
 put-hand-lines-requires c κs =
     let line = c .before .before .before .before .put-frame-line .ensures in
-    let count = few (c .before .before .before .before .before .before .before .before) in
-    let start = c .before .before .before .before .before .before .before .before .before .before .before .before .before .before .before .before .before .before in
-    omega (arith, line .0 .kept, line .1, start .pre .room)
+    let received = c .before .before .before .before .before .before .before .before in
+    let start = received .before .before .before .before .before .before .before .before .before .before .before .before .before .before .before in
+    omega (arith, line .0 .kept, line .1, few received, start .pre .1)
 
 enum-told : tie.Need-enum-told
 enum-told c = search needs
@@ -76,11 +80,15 @@ same-length c = search needs
 
 returns : tie.Need-returns
 returns c =
-    let lines = c .before .before .before .put-hand-lines .ensures in
-    let line = c .before .before .before .before .before .before .before .before .put-frame-line .ensures in
-    let received = c .before .before .before .before .before .before .before .before .before .before .before .before in
-    frame-stepped _ _ (told (received .before .before .before .before .before)) (received .panel-receive .result) _ _ (received .before .before .part-at .ensures .bytes)
-    (received .panel-receive .ensures .0) (received .before .before .before .before .before .before .before .before .before .before .pre) line lines
+    let lines = c .before .before .put-hand-lines .ensures in
+    let line = c .before .before .before .before .before .before .before .put-frame-line .ensures in
+    let received = c .before .before .before .before .before .before .before .before .before .before .before in
+    let framed = received .before .before .before .before .before .before .before .before .before .before in
+    let pre = framed .before .before .before .before .before .pre in
+    frame-stepped _ _ (framed .before .before .before .before .before .args .listing) (told framed) (received .receive-in-place .result) _ _ _
+    (received .before .before .part-at .ensures .bytes)
+    (received .receive-in-place .ensures .0)
+    (pre .0) (pre .1) line lines
 
 same-length-2 : tie.Need-same-length-2
 same-length-2 c = search needs
@@ -88,8 +96,10 @@ same-length-2 c = search needs
 returns-2 : tie.Need-returns-2
 unfolding ascii
 returns-2 c =
-    let step = c .before .before .before .before .before .before .before .step-at .ensures in
-    end-stepped (c .before .before .before .before .before .before .before .before .before .before .pre) (sym step ∙ c .before .before .before .before .before .enum-told .given .1) (c .before .before .last .ensures)
+    let found = c .before .before .before .before .before .before .before in
+    end-stepped {given = found .before .before .before .args .listing} (found .before .before .before .pre .0)
+    (sym (found .step-at .ensures) ∙ c .before .before .before .before .before .enum-told .given .1)
+    (c .before .before .last .ensures)
 
 same-length-3 : tie.Need-same-length-3
 same-length-3 c = search needs
@@ -97,8 +107,10 @@ same-length-3 c = search needs
 returns-3 : tie.Need-returns-3
 unfolding ascii
 returns-3 c =
-    let step = c .before .before .before .before .before .before .before .step-at .ensures in
-    broken-stepped (c .before .before .before .before .before .before .before .before .before .before .pre) (sym step ∙ c .before .before .before .before .before .enum-told2 .given .1) (c .before .before .last2 .ensures)
+    let found = c .before .before .before .before .before .before .before in
+    broken-stepped {given = found .before .before .before .args .listing} (found .before .before .before .pre .0)
+    (sym (found .step-at .ensures) ∙ c .before .before .before .before .before .enum-told2 .given .1)
+    (c .before .before .last2 .ensures)
 
 pub list-next-spec : {M : Type 1} → statement M
 list-next-spec =
@@ -107,8 +119,8 @@ list-next-spec =
     step-at-requires
     enum-known-next
     part-at-requires
-    slice-aggregate-panel-receive
-    panel-receive-requires
+    slice-aggregate-receive-in-place
+    receive-in-place-requires
     add-frames
     put-frame-line-requires
     slice-aggregate-put-hand-lines

@@ -1,18 +1,21 @@
 -- `list::input::print_listing` meets its contract: it has written the parts put so far, which are together the listing where nothing is left.
 -- Assumes nothing.
-use mathlib.Core.Path.{_≡_, refl, sym, ap, _∙_}
+use mathlib.Core.Path.{_≡_, refl, sym, ap, ap₂, _∙_}
 use mathlib.Core.Bool.{true}
 use mathlib.Core.List.{List, [], _++_}
 use Prim.Native.Nat.{ℕ, _+_, _*_, _≤_, _<_}
 use native.Mathlib.Omega.{arith}
 use borrow.Author.Needs.{needs}
-use lib.ListN.{length, take, length-append, length-take}
+use lib.ListN.{length, replicate, length-append, length-take}
 use lib.Seq.{length-take-le}
 use Rattle.text.specs.Text.{ascii}
+use Rattle.rules.specs.Panel.{none64, fresh}
+use Rattle.slots.specs.Slots.{slotsLength, held, upFrom}
+use Rattle.parts.specs.Record.{parts, recordOf}
 use Rattle.listing.specs.declared.Listing.{Listing}
-use Rattle.listing.specs.Listing.{State, start as startState, longest, listing}
-use Rattle.listing.specs.Step.{stateOf, stepRoom, Placed}
-use Rattle.listing.specs.Part.{PartPut, PartsPut}
+use Rattle.listing.specs.Listing.{longest, listing}
+use Rattle.listing.specs.Step.{Standing, standing, stepRoom, Placed}
+use Rattle.listing.specs.Part.{partIn, PartPut, PartsPut}
 use Rattle.listing.specs.Part.PartsPut.{no-part, one-more}
 use Rattle.listing.proofs.Filling.{bytesLeft, fewer}
 use Rattle.listing.proofs.Theorems.{part-in-listing, parts-are-listing, long-listing}
@@ -22,43 +25,48 @@ use Rattle.list.proofs.input.print_listing.Tie as tie
 
 -- so many bytes are written, those of the parts put so far, and no more than 16,384 for each byte of the bundle that is passed; the buffer has
 -- its size
-record Printing (input : List ℕ) (size : ℕ) (text : List ℕ) (l : Listing) (written : ℕ) : Type 0 where
+record Printing (input : List ℕ) (size : ℕ) (text : List ℕ) (s : Standing) (written : ℕ) : Type 0 where
   parts : List ℕ
-  put : PartsPut input parts l
+  put : PartsPut input parts s
   count : written ≡ length parts
   room : length text ≡ size
-  few : l .more ≡ true → written ≤ 16384 * l .place
-  placed : Placed input l
+  few : s .more ≡ true → written ≤ 16384 * s .place
+  placed : Placed input (s .place) (s .frames)
 
 abbrev Inv-loop : tie.InvT-loop
-Inv-loop input text₀ listing₀ written₀ text listing written = Printing input (length text₀) text listing written
+Inv-loop input high₀ count₀ marks₀ barrier₀ slots₀ floor₀ text₀ listing₀ written₀ high count marks barrier slots floor text listing written =
+    Printing input (length text₀) text (standing (recordOf (parts 0 0 high count marks barrier slots floor)) listing) written
 
 abbrev μ-loop : tie.MeasureT-loop
-μ-loop input text₀ listing₀ written₀ text listing written = bytesLeft input listing
+μ-loop input high₀ count₀ marks₀ barrier₀ slots₀ floor₀ text₀ listing₀ written₀ high count marks barrier slots floor text listing written =
+    bytesLeft input listing
 
 -- the next part: its length, that it stands in the listing at its place, and what is written then
-module _ {input : List ℕ} {size : ℕ} {text : List ℕ} {given : Listing} {written : ℕ} (printing : Printing input size text given written)
-    (on : given .more ≡ true) (short : length input ≤ longest) (small : size ≤ 16384) {l : Listing} {after : List ℕ}
-    (part : PartPut input given text l after) where
-  part-length : l .at ≡ length (take (l .at) after)
+module _ {input : List ℕ} {size : ℕ} {text : List ℕ} {given : Standing} {written : ℕ} (printing : Printing input size text given written)
+    (on : given .more ≡ true) (short : length input ≤ longest) (small : size ≤ 16384) {s : Standing} {after : List ℕ}
+    (part : PartPut input given text s after) where
+  part-length : s .at ≡ length (partIn after s)
   part-length = omega (arith, part .put .place)
 
-  part-room : l .at ≤ 16384
-  part-room = omega (arith, part-length, length-take (l .at) after, part .put .kept, printing .room)
+  part-within : s .at ≤ length after
+  part-within = omega (arith, part-length, length-take (s .at) after)
 
-  part-there : BytesAt (listing input) written (take (l .at) after)
+  part-room : s .at ≤ 16384
+  part-room = omega (arith, part-within, part .put .kept, printing .room)
+
+  part-there : BytesAt (listing input) written (partIn after s)
   part-there =
       record {
         bytes = rw (printing .count) (part-in-listing short (printing .put) part);
         small = omega (arith, part-length, part-room, printing .few on, printing .placed .within);
       }
 
-  printing-next : stepRoom ≤ size → Printing input size after l (written + length (take (l .at) after))
+  printing-next : stepRoom ≤ size → Printing input size after s (written + length (partIn after s))
   printing-next enough =
       record {
-        parts = printing .parts ++ take (l .at) after;
+        parts = printing .parts ++ partIn after s;
         put = one-more (printing .put) part;
-        count = omega (arith, printing .count, length-append (printing .parts) (take (l .at) after));
+        count = omega (arith, printing .count, length-append (printing .parts) (partIn after s));
         room = part .put .kept ∙ printing .room;
         few = λ goes. omega (arith, part-length, part-room, printing .few on, part .further goes (omega (arith, printing .room)));
         placed = part .placed;
@@ -73,19 +81,18 @@ long-length : (input : List ℕ) → longest < length input → length (listing 
 unfolding ascii
 long-length input long = rw (long-listing input long) refl
 
--- nothing yet
-printing-none : {input text : List ℕ} {l : Listing} → (stateOf l ≡ startState) × (l .at ≡ 0) × (l .more ≡ true)
-    → Printing input (length text) text l 0
+-- nothing yet: the panel is a fresh one, with 0 in each part
+printing-none : {input text : List ℕ} {l : Listing} → (l .place ≡ 0) × (l .frames ≡ 0) × (l .more ≡ true)
+    → Printing input (length text) text (standing (recordOf (parts 0 0 0 0 (replicate 64 0) (replicate 64 0) (replicate slotsLength 0) 0)) l) 0
+unfolding held fresh upFrom none64
 printing-none begun =
-    let place = ap (λ (s : State). s .place) (begun .0) in
-    let frames = ap (λ (s : State). s .frames) (begun .0) in
     record {
       parts = [];
-      put = no-part (begun .0) (begun .2);
+      put = no-part (ap₂ (λ (place frames : ℕ). record { panel = fresh 0; place = place; frames = frames }) (begun .0) (begun .1)) (begun .2);
       count = refl;
       room = refl;
       few = λ _. omega arith;
-      placed = record { few = omega arith; within = omega arith };
+      placed = record { few = omega (arith, begun .0, begun .1); within = omega (arith, begun .0) };
     }
 
 slice-aggregate-write-part : tie.Need-slice-aggregate-write-part Inv-loop μ-loop
@@ -113,30 +120,33 @@ list-part-requires c κs = search needs
 array-share-prefix-text : tie.Need-array-share-prefix-text Inv-loop μ-loop
 array-share-prefix-text c =
     let part = c .before .list-part in
-    let room = c .before .before .before .before .loop .inv .room in
-    omega (arith, part .ensures .put .place, part .ensures .put .kept, length-take (part .result .at) (part .last .1 .1 .0))
+    let turn = c .before .before .before .before .before .before .before .before .before in
+    part-within (turn .before .loop .inv) (turn .loop-test .taken) (turn .before .before .before .if1 .left) (omega arith) (part .ensures)
 
 slice-aggregate-write-part-2 : tie.Need-slice-aggregate-write-part-2 Inv-loop μ-loop
 slice-aggregate-write-part-2 c = sym (length-take-le _ _ (array-share-prefix-text (c .before)))
 
 write-part-requires-2 : tie.Need-write-part-requires-2 Inv-loop μ-loop
 write-part-requires-2 c κs =
-    let before = c .before .before .before .before in
-    part-there (before .before .loop .inv) (search needs) (before .before .before .before .if1 .left) (omega arith) (c .before .before .list-part .ensures)
+    let part = c .before .before .list-part in
+    let turn = c .before .before .before .before .before .before .before .before .before .before in
+    part-there (turn .before .loop .inv) (turn .loop-test .taken) (turn .before .before .before .if1 .left) (omega arith) (part .ensures)
 
 loop-less : tie.Need-loop-less Inv-loop μ-loop
 loop-less c =
-    let before = c .before .before .before .before .before .before in
     let part = c .before .before .before .list-part in
-    fewer (before .before .before .before .before .args .input .now) (before .loop .listing) (part .result) (search needs)
-    (λ goes. part .ensures .further goes (omega (arith, before .loop .inv .room)))
+    let turn = c .before .before .before .before .before .before .before .before .before .before .before in
+    let l = turn .before in
+    fewer (l .before .before .before .before .args .input .now) (l .loop .listing) (part .result) (turn .loop-test .taken)
+    (λ goes. part .ensures .further goes (omega (arith, l .loop .inv .room)))
     (part .ensures .placed .within)
 
 loop-again : tie.Need-loop-again Inv-loop μ-loop
 loop-again c =
-    let before = c .before .before .before .before .before .before in
+    let part = c .before .before .before .list-part in
+    let turn = c .before .before .before .before .before .before .before .before .before .before .before in
     rw (c .write-part2 .ensures)
-    (printing-next (before .loop .inv) (search needs) (before .before .before .if1 .left) (omega arith) (c .before .before .before .list-part .ensures) (omega arith))
+    (printing-next (turn .before .loop .inv) (turn .loop-test .taken) (turn .before .before .before .if1 .left) (omega arith) (part .ensures) (omega arith))
 
 returns-2 : tie.Need-returns-2 Inv-loop μ-loop
 returns-2 c =

@@ -115,9 +115,11 @@ test_rust() {
 # frame lengths that it makes.
 test_beside() {
     rustc --edition 2021 -O -D warnings -L native=$to/lib -o $built/beside tests/beside/main.rs
+    docs/barriers.sh --check &
+    table=$!
     $built/beside --list target/bin/list
+    wait $table
     $built/beside --list target/bin/list --faults
-    docs/barriers.sh --check
 }
 
 [ -n "${WITHOUT_RUST:-}" ] || command -v rustc >/dev/null ||

@@ -1,13 +1,13 @@
 // Bundles: a run of frames, each behind its length in 16 bits. The bundle reader keeps the slice and
 // its place, and gives the next frame as a part of the slice, or end, or broken. Each public
 // function accepts any input.
-use frame::Fields;
 use numbers::number_at;
+use reading::Fields;
 ghost use mathlib.Core.Path.{_≡_};
 ghost use Prim.Native.Nat.{_+_, _≤_};
 ghost use lib.ListN.{length, take, drop};
 ghost use Rattle.frame.specs.Reading.{readingOf};
-ghost use Rattle.frame.specs.Answer.{fieldsOf};
+ghost use Rattle.reading.specs.Answer.{fieldsOf};
 ghost use Rattle.bundle.specs.Bundle.{stepAt, frameAt, Part, FramePart, Gives, answerOf};
 
 // What stands at a place: a frame, from start on, of so many bytes, and the place behind it; the end;
@@ -143,5 +143,5 @@ pub fn part_at(bundle: &[u8], place: usize) -> &[u8]
 pub fn read_at(bundle: &[u8], place: usize) -> Fields
     ensures { λ r. ⌜ r ≡ fieldsOf (readingOf (frameAt (now (bundle .entry)) place)) ⌝ }
 {
-    frame::read(part_at(bundle, place))
+    reading::read(part_at(bundle, place))
 }

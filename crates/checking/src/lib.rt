@@ -2,7 +2,7 @@
 // read. An internal crate. Preconditions: the bytes of slots; a frame that does not read in version 1, and
 // for the last checks one that reads in version 2.
 use choosing::ready;
-use frame::frame_check;
+use frame_check::frame_check;
 use parts::OUTPUT;
 use parts::broken;
 use slots::deadline;

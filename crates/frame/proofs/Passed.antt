@@ -15,7 +15,6 @@ use Rattle.frame.specs.Message.{Message, maskOf, present}
 use Rattle.frame.specs.Frame.{mark, versionOf, fields, frame}
 use Rattle.frame.specs.Refusal.{firstOf}
 use Rattle.frame.specs.Reading.{markIn, versionIn, sourceIn, deadlineIn, maskIn, countIn, entriesIn, lengthIn, payloadPlace, eachEarlier, checks, refusal, message, refused, messageIn, readAs, reading}
-use Rattle.frame.specs.Answer.{fieldsOf, payloadOf, startOf}
 use Rattle.frame.proofs.EachNumber.{eachEarlier-pos, eachEarlier-lt}
 use Rattle.frame.proofs.Entries.{length-byPanel, present-byPanel, byPanel-lt}
 use Rattle.frame.proofs.Readable.{Readable}
@@ -88,29 +87,12 @@ unfolding reading
 reading-message width bs m e =
     let r = readAs-message (refusal width bs) (messageIn width bs) m e in (zero-passed width bs (r .0), r .1)
 
--- the fields have the number of the refusal
-fieldsOf-readAs : (n : ℕ) (m : Message) → fieldsOf (readAs n m) .refusal ≡ n
-fieldsOf-readAs zero m = refl
-fieldsOf-readAs (suc n) m = refl
-
-pub fieldsOf-refusal : (width : ℕ) (bs : List ℕ) → fieldsOf (reading width bs) .refusal ≡ refusal width bs
-unfolding reading
-fieldsOf-refusal width bs = fieldsOf-readAs (refusal width bs) (messageIn width bs)
-
 -- ---- the payload of bytes that pass
 
 module _ (width : ℕ) (bs : List ℕ) (p : Passed width bs) where
   pub length-payload : length (messageIn width bs .payload) ≡ lengthIn width bs
   unfolding messageIn
   length-payload = rw length-drop (omega (arith, p .whole))
-
-  pub payload-passed : payloadOf (reading width bs) ≡ drop (payloadPlace width bs) bs
-  unfolding messageIn
-  payload-passed = rw (reading-zero width bs (passed-zero width bs p))
-
-  pub start-passed : startOf bs (reading width bs) ≡ payloadPlace width bs
-  unfolding messageIn
-  start-passed = rw (reading-zero width bs (passed-zero width bs p), length-drop) (omega (arith, p .room))
 
 -- ---- the entries of bytes that pass, apart and together again
 

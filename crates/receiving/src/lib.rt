@@ -5,7 +5,7 @@
 use checking::receive_number;
 use choosing::ready;
 use frame::BUFFER;
-use frame::is_narrow;
+use frame_check::is_narrow;
 use handing::hand;
 use parts::Answer;
 use parts::settle_slots;

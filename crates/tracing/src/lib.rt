@@ -4,8 +4,8 @@
 use checking::message_number;
 use choosing::ready;
 use frame::BUFFER;
-use frame::frame_check;
-use frame::is_narrow;
+use frame_check::frame_check;
+use frame_check::is_narrow;
 use parts::broken;
 use slots::SLOTS;
 use slots::mask;

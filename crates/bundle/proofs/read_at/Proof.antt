@@ -4,7 +4,7 @@ use mathlib.Core.List.{List}
 use Prim.Native.Nat.{ℕ}
 use borrow.Author.Needs.{needs}
 use Rattle.frame.specs.Reading.{readingOf}
-use Rattle.frame.specs.Answer.{fieldsOf}
+use Rattle.reading.specs.Answer.{fieldsOf}
 use Rattle.bundle.proofs.read_at.Statement.{statement}
 use Rattle.bundle.proofs.read_at.Tie as tie
 

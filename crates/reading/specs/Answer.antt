@@ -4,9 +4,9 @@ use mathlib.Core.Path.{_≡_}
 use mathlib.Core.List.{List, []}
 use lib.ListN.{length, replicate}
 use denote.Ref.{RefT, now}
-use Rattle.frame.specs.declared.Fields.{Fields}
+use Rattle.reading.specs.declared.Fields.{Fields}
 use Rattle.frame.specs.Message.{maskOf}
 use Rattle.frame.specs.Reading.{Reading, message, refused, readingOf}
 
 -- the fields; for bytes turned down the number, and every other field 0
 abbrev pub fieldsOf : Reading → Fields

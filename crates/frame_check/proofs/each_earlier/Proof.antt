@@ -1,15 +1,15 @@
--- `frame::each_earlier` meets its contract: the entries so far passed, so those that are left decide. Assumes nothing.
+-- `frame_check::each_earlier` meets its contract: the entries so far passed, so those that are left decide. Assumes nothing.
 use mathlib.Core.Path.{_≡_, refl, sym, _∙_}
 use Prim.Native.Nat.{_+_, _-_, _*_, _≤_}
 use lib.ListN.{length}
 use borrow.Author.Needs.{needs}
 use native.Mathlib.Omega.{arith}
 use Rattle.numbers.specs.Numbers.{numbersAt}
 use Rattle.frame.specs.Reading.{eachEarlier}
 use Rattle.frame.proofs.EachNumber.{eachEarlier-none, eachEarlier-outside, eachEarlier-next}
 use Rattle.frame.proofs.Widths.{mul-next}
-use Rattle.frame.proofs.each_earlier.Statement.{statement}
-use Rattle.frame.proofs.each_earlier.Tie as tie
+use Rattle.frame_check.proofs.each_earlier.Statement.{statement}
+use Rattle.frame_check.proofs.each_earlier.Tie as tie
 
 abbrev Inv-loop : tie.InvT-loop
 Inv-loop frame width count deadline limit at₀ left₀ at left =

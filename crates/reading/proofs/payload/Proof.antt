@@ -1,4 +1,4 @@
--- `frame::payload` meets its contract: bytes that no check applies to have their payload behind the entries. Assumes nothing.
+-- `reading::payload` meets its contract: bytes that no check applies to have their payload behind the entries. Assumes nothing.
 use mathlib.Core.Path.{_≡_, refl, sym, ap, _∙_}
 use mathlib.Core.List.{List}
 use Prim.Native.Nat.{ℕ, _+_, _-_, _*_, _≤_}
@@ -7,11 +7,12 @@ use native.Mathlib.Omega.{arith}
 use denote.Ref.{now}
 use lib.ListN.{length, drop, length-drop}
 use lib.Seq.{take-all}
 use Rattle.frame.specs.Reading.{widthIn, payloadPlace}
 use Rattle.frame.proofs.Widths.{mul-few}
-use Rattle.frame.proofs.Passed.{Passed, zero-passed, reading-refused, payload-passed, start-passed}
-use Rattle.frame.proofs.payload.Statement.{statement}
-use Rattle.frame.proofs.payload.Tie as tie
+use Rattle.frame.proofs.Passed.{Passed, zero-passed, reading-refused}
+use Rattle.reading.proofs.Answers.{payload-passed, start-passed}
+use Rattle.reading.proofs.payload.Statement.{statement}
+use Rattle.reading.proofs.payload.Tie as tie
 
 abbrev bytes : tie.Else1 → List ℕ
 bytes c = now (c .before .before .before .args .frame)

@@ -1,4 +1,4 @@
--- `frame::check` meets its contract, for every width: at each `return` the checks before it passed, and its own applies. Assumes nothing.
+-- `frame_check::check` meets its contract, for every width: at each `return` the checks before it passed, and its own applies. Assumes nothing.
 use mathlib.Core.Path.{_≡_, refl, sym, ap, ap₂, _∙_}
 use mathlib.Core.Bool.{Bool, not}
 use mathlib.Core.List.{List}
@@ -10,12 +10,12 @@ use denote.Ref.{now}
 use lib.ListN.{length, getD, take}
 use Rattle.numbers.specs.Numbers.{numbersAt}
 use Rattle.numbers.proofs.NumberAt.{numberAt-one}
 use Rattle.frame.specs.Refusal.{firstOf}
 use Rattle.frame.specs.Reading.{deadlineIn, countIn, entriesIn, lengthIn, payloadPlace, eachEarlier, checks}
 use Rattle.frame.proofs.Widths.{mul-few}
 use Rattle.frame.proofs.FirstOf.{Past, pass, stop, eachNumber, Past-take, applies-none, firstOf-take}
-use Rattle.frame.proofs.check.Statement.{statement}
-use Rattle.frame.proofs.check.Tie as tie
+use Rattle.frame_check.proofs.check.Statement.{statement}
+use Rattle.frame_check.proofs.check.Tie as tie
 
 -- the bytes, and the table of their checks
 abbrev bytes : tie.Start → List ℕ

@@ -1,4 +1,4 @@
--- `frame::head_check` meets its contract: at each `return` the checks before it passed, and its own applies. Assumes nothing.
+-- `frame_check::head_check` meets its contract: at each `return` the checks before it passed, and its own applies. Assumes nothing.
 use mathlib.Core.Path.{refl, sym, ap}
 use mathlib.Core.Bool.{Bool, not}
 use mathlib.Core.List.{List}
@@ -9,12 +9,12 @@ use native.Mathlib.Omega.{arith}
 use denote.Ref.{now}
 use lib.ListN.{length, take}
 use Rattle.numbers.proofs.NumberAt.{numberAt-one}
 use Rattle.frame.specs.Refusal.{firstOf}
 use Rattle.frame.specs.Frame.{mark, versionOf}
 use Rattle.frame.specs.Reading.{markIn, versionIn, sourceIn, deadlineIn, checks}
 use Rattle.frame.proofs.FirstOf.{Past, pass, stop}
-use Rattle.frame.proofs.head_check.Statement.{statement}
-use Rattle.frame.proofs.head_check.Tie as tie
+use Rattle.frame_check.proofs.head_check.Statement.{statement}
+use Rattle.frame_check.proofs.head_check.Tie as tie
 
 -- the bytes, and the table of their checks
 abbrev bytes : tie.Start → List ℕ

@@ -1,4 +1,4 @@
--- `frame::read` meets its contract: bytes that no check applies to have their fields at the places of the definition. Assumes nothing.
+-- `reading::read` meets its contract: bytes that no check applies to have their fields at the places of the definition. Assumes nothing.
 use mathlib.Core.Path.{_≡_, sym, ap, _∙_}
 use mathlib.Core.List.{List}
 use Prim.Native.Nat.{ℕ, _+_, _*_, _≤_}
@@ -9,13 +9,13 @@ use lib.Count.{onesIn}
 use lib.ListN.{length, getD, replicate}
 use Rattle.numbers.specs.Numbers.{Bytes, numbersAt}
 use Rattle.numbers.proofs.NumberAt.{numberAt-one}
 use Rattle.frame.specs.Message.{byPanel}
 use Rattle.frame.specs.Reading.{widthIn, countIn, refusal, messageIn}
 use Rattle.frame.proofs.Widths.{mul-few}
 use Rattle.frame.proofs.Passed.{Passed, zero-passed, reading-zero, reading-refused, length-payload}
 use Rattle.frame.proofs.Passed.{maskOf-passed, mask-fits}
-use Rattle.frame.proofs.read.Statement.{statement}
-use Rattle.frame.proofs.read.Tie as tie
+use Rattle.reading.proofs.read.Statement.{statement}
+use Rattle.reading.proofs.read.Tie as tie
 
 abbrev bytes : tie.Else1 → List ℕ
 bytes c = now (c .before .before .before .args .frame)

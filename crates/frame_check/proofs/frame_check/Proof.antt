@@ -1,14 +1,14 @@
--- `frame::frame_check` meets its contract: the check is made for the width that the version picks. Assumes nothing.
+-- `frame_check::frame_check` meets its contract: the check is made for the width that the version picks. Assumes nothing.
 use mathlib.Core.Path.{refl, ap, _∙_}
 use Prim.Native.Nat.{ℕ}
 use borrow.Author.Needs.{needs}
 use borrow.Author.Tests.{lt-ltb}
 use denote.Ref.{now}
 use lib.ListN.{length}
 use Rattle.frame.specs.Reading.{widthIn, checks, refusal}
 use Rattle.frame.proofs.FirstOf.{stop}
-use Rattle.frame.proofs.frame_check.Statement.{statement}
-use Rattle.frame.proofs.frame_check.Tie as tie
+use Rattle.frame_check.proofs.frame_check.Statement.{statement}
+use Rattle.frame_check.proofs.frame_check.Tie as tie
 
 returns : tie.Need-returns
 unfolding checks

@@ -1,13 +1,13 @@
--- `frame::entries_by_panel` meets its contract. Its loop's invariant is `Filled`: the entries of the panels so far are laid. Assumes nothing.
+-- `reading::entries_by_panel` meets its contract. Its loop's invariant is `Filled`: the entries of the panels so far are laid. Assumes nothing.
 mod Filling
 use mathlib.Core.Logic.{⊎-elim}
 use Prim.Native.Nat.{_+_, _-_}
 use borrow.Author.Needs.{needs}
 use native.Mathlib.Omega.{arith}
 use denote.Ref.{now}
-use Rattle.frame.proofs.entries_by_panel.Proof.Filling.{Filled, filled-none, filled-even, filled-odd, filled-all, room-odd}
-use Rattle.frame.proofs.entries_by_panel.Statement.{statement}
-use Rattle.frame.proofs.entries_by_panel.Tie as tie
+use Rattle.reading.proofs.entries_by_panel.Proof.Filling.{Filled, filled-none, filled-even, filled-odd, filled-all, room-odd}
+use Rattle.reading.proofs.entries_by_panel.Statement.{statement}
+use Rattle.reading.proofs.entries_by_panel.Tie as tie
 
 abbrev Inv-loop : tie.InvT-loop
 Inv-loop frame width mask entries₀ bits₀ at₀ panel₀ entries bits at panel = Filled frame width (14 + width) mask entries bits at panel

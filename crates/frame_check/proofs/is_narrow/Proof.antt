@@ -1,10 +1,10 @@
--- `frame::is_narrow` meets its contract. Assumes nothing.
+-- `frame_check::is_narrow` meets its contract. Assumes nothing.
 use mathlib.Core.Path.{ap}
 use Prim.Native.Nat.{ℕ}
 use borrow.Author.Needs.{needs}
 use lib.Dec.{eqb}
-use Rattle.frame.proofs.is_narrow.Statement.{statement}
-use Rattle.frame.proofs.is_narrow.Tie as tie
+use Rattle.frame_check.proofs.is_narrow.Statement.{statement}
+use Rattle.frame_check.proofs.is_narrow.Tie as tie
 
 check-requires : tie.Need-check-requires
 check-requires c κs = search needs

@@ -1,0 +1,2 @@
+-- What is answered for bytes that pass.
+pub mod Answers

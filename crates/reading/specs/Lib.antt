@@ -1,0 +1,2 @@
+-- What `read` and `payload` answer.
+pub mod Answer

@@ -1,8 +1,8 @@
 // Reads the bundle and writes its listing, through C's `read` and `write`, whose contracts the kit
 // assumes. They say nothing of the bytes: so `write_part`, which alone writes, has the precondition that
 // these are the next bytes of the listing.
-use listing::list_part;
 use listing::start;
+use listing_parts::list_part;
 use slots::SLOTS;
 ghost use mathlib.Core.Path.{_≡_};
 ghost use Prim.Native.Nat.{_+_};

@@ -1,4 +1,3 @@
--- The steps and the parts of a listing, and what is shown of the whole.
+-- The steps of a listing, and what is shown of the whole.
 pub mod Stepping
-pub mod Filling
 pub mod Theorems

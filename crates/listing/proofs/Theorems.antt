@@ -1,13 +1,11 @@
--- What is shown of the whole listing: bench cases 3 and 12, that the steps counted are enough, and that the parts are together the whole.
--- Assumes nothing.
-use mathlib.Core.Path.{_≡_, refl, sym, ap, ap₂, _∙_}
+-- What is shown of the whole listing: bench cases 3 and 12, and that the steps counted are enough. Assumes nothing.
+use mathlib.Core.Path.{_≡_, refl, ap}
 use mathlib.Core.Bool.{Bool, true, false, cond}
-use mathlib.Core.List.{List, [], _∷_, _++_, append-assoc, append-nil}
+use mathlib.Core.List.{List, [], _∷_, _++_}
 use Prim.Native.Nat.{ℕ, zero, suc, _+_, _≤_, _<_}
 use native.Mathlib.Omega.{arith}
-use borrow.Author.Tests.{lt-ltb, le-ltb}
-use lib.ListN.{length, take, drop}
-use lib.Seq.{take-at, drop-at}
+use borrow.Author.Tests.{lt-ltb}
+use lib.ListN.{length}
 use Rattle.bundle.specs.declared.Step.{Step}
 use Rattle.bundle.specs.declared.Step.the-variants.{Frame, End, Broken}
 use Rattle.bundle.specs.Bundle.{bundleOf, stepAt}
@@ -19,9 +17,6 @@ use Rattle.log_records.specs.LogRecords.{logRecordAt, isWhole, fieldsIn, payloa
 use Rattle.text.specs.Text.{ascii, digit, decimalIn, hexadecimal}
 use Rattle.lines.specs.Lines.{item, outcome, frameLine, payloadText, handLine, handLines}
 use Rattle.listing.specs.Listing.{State, start, received, linesAt, onward, stateAfter, goesOn, linesFrom, longest, listing}
-use Rattle.listing.specs.Step.{Standing, stateOf}
-use Rattle.listing.specs.Part.{linesLeft, partIn, PartPut, PartsPut}
-use Rattle.listing.specs.Part.PartsPut.{no-part, one-more}
 
 -- whoever unfolds this unfolds all that a listing is computed by
 opened : Unit {0}
@@ -70,40 +65,6 @@ linesFrom-enough (suc most) bundle s within few =
         let further = onward-place bundle s (stepAt bundle (s .place)) refl on in
         rest (further .1) (omega (arith, further .0))
     go false on rest = refl
-
--- ---- the parts are together the whole
-
--- what was put and what is left
-pub parts-left : {bundle parts : List ℕ} {s : Standing} → length bundle ≤ longest → PartsPut bundle parts s → parts ++ linesLeft bundle s ≡ listing bundle
-unfolding listing linesLeft
-parts-left {bundle} short (no-part begun on) =
-    ap₂ (λ (b : Bool) (s : State). cond b (linesFrom (suc (length bundle)) bundle s) []) on begun
-    ∙ ap (λ (b : Bool). cond b (ascii "long\n") (linesFrom (suc (length bundle)) bundle start)) (sym (le-ltb longest (length bundle) short))
-parts-left {bundle} short (one-more {parts} {given} {text} {s} {after} before part) =
-    append-assoc parts (partIn after s) (linesLeft bundle s)
-    ∙ ap (λ (rest : List ℕ). parts ++ rest) (sym (part .lines))
-    ∙ parts-left short before
-
--- each part stands in the listing behind the parts before it
-pub part-in-listing : {bundle parts : List ℕ} {given : Standing} {text : List ℕ} {s : Standing} {after : List ℕ} → length bundle ≤ longest
-    → PartsPut bundle parts given
-    → PartPut bundle given text s after
-    → take (length (partIn after s)) (drop (length parts) (listing bundle)) ≡ partIn after s
-part-in-listing {bundle} {parts} {given} {text} {s} {after} short before part =
-    let whole : parts ++ (partIn after s ++ linesLeft bundle s) ≡ listing bundle =
-    ap (λ (rest : List ℕ). parts ++ rest) (sym (part .lines)) ∙ parts-left short before in
-    ap (λ (w : List ℕ). take (length (partIn after s)) (drop (length parts) w)) (sym whole)
-    ∙ ap (take (length (partIn after s))) (drop-at parts (partIn after s ++ linesLeft bundle s) (length parts) refl)
-    ∙ take-at (partIn after s) (linesLeft bundle s) (length (partIn after s)) refl
-
--- where nothing is left, the parts put are together the listing
-pub parts-are-listing : {bundle parts : List ℕ} {s : Standing} → length bundle ≤ longest → PartsPut bundle parts s → s .more ≡ false
-    → parts ≡ listing bundle
-unfolding linesLeft
-parts-are-listing {bundle} {parts} {s} short put over =
-    sym (append-nil parts)
-    ∙ ap (λ (b : Bool). parts ++ cond b (linesFrom (suc (length bundle)) bundle (stateOf s)) []) (sym over)
-    ∙ parts-left short put
 
 -- of a longer one it is only `long`
 pub long-listing : (bundle : List ℕ) → longest < length bundle → listing bundle ≡ ascii "long\n"

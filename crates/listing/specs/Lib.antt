@@ -1,4 +1,3 @@
--- What the program "list" prints, and what one step and one part of it promise.
+-- What the program "list" prints, and what one step of it promises.
 pub mod Listing
 pub mod Step
-pub mod Part

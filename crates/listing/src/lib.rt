@@ -1,6 +1,5 @@
-// The listing of a bundle, part after part: a part is the lines that a lent buffer has room for, which
-// the program "list" writes. It is put step by step: each step receives one frame at a panel, in place,
-// and puts its lines. An internal crate. Precondition: a place in the bundle; of a step room too.
+// The listing of a bundle, step by step: each step receives one frame at a panel, in place, and puts its
+// lines. An internal crate. Precondition: a place in the bundle, and room for a step's lines.
 use bundle::Step;
 use bundle::part_at;
 use bundle::step_at;
@@ -16,10 +15,9 @@ ghost use lib.ListN.{length};
 ghost use Rattle.parts.specs.Record.{parts, recordOf};
 ghost use Rattle.text.specs.Put.{Room};
 ghost use Rattle.listing.specs.Step.{stepRoom, standing, Placed, Stepped, Ended};
-ghost use Rattle.listing.specs.Part.{PartPut};
 
 // The bytes that the longest lines of a step have room in.
-const STEP_ROOM: usize = 4096;
+pub const STEP_ROOM: usize = 4096;
 
 // Where the listing stands, beside its panel: the place in the bundle, the frames so far, the place
 // behind the text put so far, and whether it goes on.
@@ -57,7 +55,7 @@ fn last<'a, 'b>(listing: Listing, text: &'a mut [u8], line: &'b [u8]) -> Listing
 }
 
 // One step: the lines of the next frame, or the last line.
-fn list_next(
+pub fn list_next(
     own: u8,
     time: u64,
     high: &mut u64,
@@ -110,49 +108,4 @@ fn list_next(
         Step::End => last(listing, text, b"end\n"),
         Step::Broken => last(listing, text, b"broken\n"),
     }
-}
-
-// Puts a part of the listing at the start of the buffer: the lines of step after step, while the
-// listing goes on and there is room for a step's lines. The listing then stands behind that part.
-pub fn list_part(
-    own: u8,
-    time: u64,
-    high: &mut u64,
-    count: &mut usize,
-    marks: &mut [u64; 64],
-    barrier: &mut [u64; 64],
-    slots: &mut [u8; SLOTS],
-    floor: &mut u64,
-    bundle: &[u8],
-    listing: Listing,
-    text: &mut [u8],
-) -> Listing
-    requires { ⌜ Placed (now bundle) (listing .place) (listing .frames) ⌝ }
-    ensures { λ r. ⌜ PartPut (now (bundle .entry))
-        (standing (recordOf (parts own time (now (high .entry)) (now (count .entry)) (now (marks .entry)) (now (barrier .entry)) (now (slots .entry)) (now (floor .entry)))) listing)
-        (now (text .entry))
-        (standing (recordOf (parts own time (now (high .exit)) (now (count .exit)) (now (marks .exit)) (now (barrier .exit)) (now (slots .exit)) (now (floor .exit)))) r)
-        (now (text .exit)) ⌝ }
-{
-    let mut part = listing;
-    part.at = 0;
-    while part.more {
-        if text.len() < part.at + STEP_ROOM {
-            return part;
-        }
-        part = list_next(
-            own,
-            time,
-            high,
-            count,
-            marks,
-            barrier,
-            slots,
-            floor,
-            bundle,
-            part,
-            text,
-        );
-    }
-    part
 }

@@ -15,10 +15,11 @@ use Rattle.parts.specs.Record.{parts, recordOf}
 use Rattle.listing.specs.declared.Listing.{Listing}
 use Rattle.listing.specs.Listing.{longest, listing}
 use Rattle.listing.specs.Step.{Standing, standing, stepRoom, Placed}
-use Rattle.listing.specs.Part.{partIn, PartPut, PartsPut}
-use Rattle.listing.specs.Part.PartsPut.{no-part, one-more}
-use Rattle.listing.proofs.Filling.{bytesLeft, fewer}
-use Rattle.listing.proofs.Theorems.{part-in-listing, parts-are-listing, long-listing}
+use Rattle.listing_parts.specs.Part.{partIn, PartPut, PartsPut}
+use Rattle.listing_parts.specs.Part.PartsPut.{no-part, one-more}
+use Rattle.listing_parts.proofs.Filling.{bytesLeft, fewer}
+use Rattle.listing.proofs.Theorems.{long-listing}
+use Rattle.listing_parts.proofs.Theorems.{part-in-listing, parts-are-listing}
 use Rattle.list.specs.Written.{BytesAt}
 use Rattle.list.proofs.input.print_listing.Statement.{statement}
 use Rattle.list.proofs.input.print_listing.Tie as tie

@@ -8,12 +8,12 @@ use lib.ListN.{length, take}
 use Rattle.numbers.proofs.Over.{take-over}
 use Rattle.text.specs.Put.{Put}
 use Rattle.text.proofs.Puts.{put-nil, put-put}
 use Rattle.listing.specs.declared.Listing.{Listing}
 use Rattle.listing.specs.Listing.{linesAt, stateAfter, linesFrom}
 use Rattle.listing.specs.Step.{Standing, stateOf, stepRoom, Placed, Stepped}
-use Rattle.listing.specs.Part.{linesLeft, partIn, PartPut}
+use Rattle.listing_parts.specs.Part.{linesLeft, partIn, PartPut}
 use Rattle.listing.proofs.Stepping.{never}
 use Rattle.listing.proofs.Theorems.{linesFrom-enough}
 
 -- ---- that it ends
 

@@ -1,13 +1,13 @@
--- `listing::list_part` meets its contract: after each step the lines so far are put. Assumes nothing.
+-- `listing_parts::list_part` meets its contract: after each step the lines so far are put. Assumes nothing.
 use mathlib.Core.Path.{refl}
 use native.Mathlib.Omega.{arith}
 use borrow.Author.Needs.{needs}
 use Rattle.parts.specs.Record.{parts, recordOf}
 use Rattle.listing.specs.Step.{standing}
 use Rattle.listing.proofs.Stepping.{never}
-use Rattle.listing.proofs.Filling.{bytesLeft, fewer, Filling, filling-none, filling-step, filled}
-use Rattle.listing.proofs.list_part.Statement.{statement}
-use Rattle.listing.proofs.list_part.Tie as tie
+use Rattle.listing_parts.proofs.Filling.{bytesLeft, fewer, Filling, filling-none, filling-step, filled}
+use Rattle.listing_parts.proofs.list_part.Statement.{statement}
+use Rattle.listing_parts.proofs.list_part.Tie as tie
 
 abbrev Inv-loop : tie.InvT-loop
 Inv-loop own time high₀ count₀ marks₀ barrier₀ slots₀ floor₀ bundle text₀ part₀ high count marks barrier slots floor text part =

@@ -1,0 +1,2 @@
+-- What one part of a listing promises.
+pub mod Part

@@ -65,34 +65,24 @@ sources() {
     done
 }
 
-# made CRATE: whether target/staticlib/libCRATE.a is made of these very files.
-made() {
-    sources "$1" >"$built/$1.sources"
-    [ -f "target/staticlib/lib$1.a" ] && cmp -s "$built/$1.sources" "$built/$1.made"
+# archive CRATE: proves the crate and builds target/staticlib/libCRATE.a.
+archive() {
+    sources "$1" >"$built/sources"
+    if [ -f "target/staticlib/lib$1.a" ] && cmp -s "$built/sources" "$built/$1.made"; then
+        say "$1 is as it was when it was last proved and built"
+        return
+    fi
+    rm -f "$built/$1.made"
+    say "proving and building $1, and what it stands on"
+    quietly rt staticlib "$1"
+    mv "$built/sources" "$built/$1.made"
 }
 
-# One archive, with the objects of seven. Those to be made anew are proved and built two at a time, once
-# what they stand on is proved.
+# One archive, with the objects of seven.
 mkdir -p "$built"
 rm -f "$built"/*.o "$built/libpanel.a"
-crates="exports beacon setting_back tracing frame_check log_records bundle"
-anew=
-for crate in $crates; do
-    if made $crate; then
-        say "$crate is as it was when it was last proved and built"
-    else
-        rm -f "$built/$crate.made"
-        anew="$anew $crate"
-    fi
-done
-if [ -n "$anew" ]; then
-    say "proving and building$anew, and what they stand on"
-    quietly rt check $(for crate in $anew; do below $crate | tail -n +2; done | sort -u)
-    echo $anew | tr ' ' '\n' | xargs -P 2 -I CRATE sh -c \
-        'rt staticlib CRATE >"$1/CRATE.log" 2>&1 || { cat "$1/CRATE.log" >&2; exit 255; }' - "$built"
-fi
-for crate in $crates; do
-    mv "$built/$crate.sources" "$built/$crate.made"
+for crate in exports beacon setting_back tracing frame_check log_records bundle; do
+    archive $crate
     (cd "$built" && $ar x "../staticlib/lib$crate.a")
 done
 $ar crsD "$built/libpanel.a" "$built"/*.o

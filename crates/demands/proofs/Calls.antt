@@ -72,7 +72,7 @@ pub record Calls (M : Type 1) : Type 2 where
   pub panel-clock : panel-clock.statement M
   pub panel-set-back : panel-set-back.statement M
   pub panel-trace : panel-trace.statement M
-  -- Frames, read (crates/frame/src/lib.rt) and written (crates/writing/src/lib.rt, which is internal).
+  -- Frames, checked (crates/frame_check/src/lib.rt), read (crates/reading/src/lib.rt) and written (crates/writing/src/lib.rt, which is internal).
   pub frame-check : frame-check.statement M
   pub read : read.statement M
   pub payload : payload.statement M

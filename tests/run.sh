@@ -111,15 +111,18 @@ test_rust() {
     grep -q E0507 $built/log || fail "rustc turns tests/copied.rs down otherwise: $(cat $built/log)"
 }
 
-# A second implementation beside the module, without faults and with planted ones, and the table of
-# frame lengths that it makes.
+# A second implementation beside the module, without faults and at the same time with planted ones, and
+# the table of frame lengths that it makes.
 test_beside() {
     rustc --edition 2021 -O -D warnings -L native=$to/lib -o $built/beside tests/beside/main.rs
-    docs/barriers.sh --check &
-    table=$!
+    $built/beside --list target/bin/list --faults >$built/faults 2>&1 &
+    faults=$!
     $built/beside --list target/bin/list
-    wait $table
-    $built/beside --list target/bin/list --faults
+    docs/barriers.sh --check
+    status=0
+    wait $faults || status=$?
+    cat $built/faults
+    [ $status -eq 0 ] || fail "the run with planted faults ends with status $status"
 }
 
 [ -n "${WITHOUT_RUST:-}" ] || command -v rustc >/dev/null ||

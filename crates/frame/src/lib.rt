@@ -10,6 +10,11 @@ ghost use Rattle.numbers.specs.Numbers.{numberAt};
 ghost use Rattle.frame.specs.Frame.{Width};
 ghost use Rattle.frame.specs.Reading.{widthIn, deadlineIn, countIn};
 
+// The mark, and the number that it makes with version 2 behind it, in five bytes.
+pub const MARK: u64 = 0x445259;
+
+pub const MARK_AND_VERSION: u64 = MARK * 65536 + 2;
+
 // The width of version 1, and that of version 2, in which frames are written and messages wait.
 pub const NARROW: usize = 4;
 
@@ -20,10 +25,18 @@ pub const DEADLINE_AT: usize = 6;
 
 pub const MASK_AT: usize = DEADLINE_AT + WIDTH;
 
-pub const ENTRIES_AT: usize = MASK_AT + 8;
+pub const ENTRIES_AT: usize = HEAD + WIDTH;
 
-// The bytes of the shortest frame of version 2: the fields up to the mask, and the length byte.
-pub const SHORTEST: usize = ENTRIES_AT + 1;
+// The bytes of the fields up to the mask, without the deadline, and with the length byte: the width
+// more is where the entries stand, and the length of the shortest frame.
+pub const HEAD: usize = DEADLINE_AT + 8;
+
+pub const BARE: usize = HEAD + 1;
+
+// The bytes of the shortest frame of version 1, and of version 2.
+pub const SHORTEST_NARROW: usize = BARE + NARROW;
+
+pub const SHORTEST: usize = BARE + WIDTH;
 
 // The bytes of the longest frame, which a frame buffer has room for.
 pub const BUFFER: usize = 567;

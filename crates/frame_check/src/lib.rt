@@ -1,6 +1,10 @@
 // The frame check, for C too: 0, or the refusal number of the reading. It goes through the checks in the
 // order of their table, in one body for both versions. Each public function accepts any input.
+use frame::BARE;
+use frame::HEAD;
+use frame::MARK;
 use frame::NARROW;
+use frame::SHORTEST_NARROW;
 use frame::deadline_in;
 use frame::entry_at;
 use frame::entry_count;
@@ -21,16 +25,16 @@ fn head_check(frame: &[u8], width: usize) -> u8
     requires { ⌜ Width width ⌝ }
     ensures { λ r. ⌜ r ≡ firstOf (take 6 (checks width (now (frame .entry)))) ⌝ }
 {
-    if frame.len() < 19 {
+    if frame.len() < SHORTEST_NARROW {
         return 1; // fewer than 19 bytes
     }
-    if number_at(frame, 0, 3) != 0x445259 {
+    if number_at(frame, 0, 3) != MARK {
         return 2; // the mark
     }
     if number_at(frame, 3, 2) != (width / 4) as u64 {
         return 3; // the version
     }
-    if frame.len() < 15 + width {
+    if frame.len() < BARE + width {
         return 1; // fewer bytes than a frame of that version has
     }
     if 63 < frame[5] {
@@ -49,7 +53,7 @@ fn each_earlier(frame: &[u8], width: usize, count: usize, deadline: u64) -> bool
     ensures { λ r. ⌜ r ≡ eachEarlier deadline (numbersAt (now (frame .entry)) (14 + width) width count) ⌝ }
 {
     let limit = deadline - 1;
-    let mut at = 14 + width;
+    let mut at = HEAD + width;
     let mut left = count;
     while 0 < left {
         if limit <= wrapping_sub_u64(entry_at(frame, at, width), 1) {
@@ -71,7 +75,7 @@ fn check(frame: &[u8], width: usize) -> u8
         return head;
     }
     let count = entry_count(frame, width);
-    let start = 15 + width + width * count;
+    let start = BARE + width + width * count;
     if frame.len() < start {
         return 1; // too few bytes for the entries and the length byte
     }
@@ -96,7 +100,7 @@ fn check(frame: &[u8], width: usize) -> u8
 pub extern "C" fn frame_check(frame: &[u8]) -> u8
     ensures { λ r. ⌜ r ≡ refusalOf (now (frame .entry)) ⌝ }
 {
-    if frame.len() < 19 {
+    if frame.len() < SHORTEST_NARROW {
         return 1; // fewer than 19 bytes, and perhaps no version among them
     }
     check(frame, width_in(frame))

@@ -1,6 +1,8 @@
 // The reading of a frame of either version: its fields by value, and its payload as a part of the
 // caller's bytes. Each public function accepts any input.
+use frame::BARE;
 use frame::DEADLINE_AT;
+use frame::HEAD;
 use frame::deadline_in;
 use frame::entry_at;
 use frame::entry_count;
@@ -26,7 +28,7 @@ pub fn payload(frame: &[u8]) -> &[u8]
         return &frame[0..0];
     }
     let width = width_in(frame);
-    let start = 15 + width + width * entry_count(frame, width);
+    let start = BARE + width + width * entry_count(frame, width);
     &frame[start..]
 }
 
@@ -37,7 +39,7 @@ fn entries_by_panel(frame: &[u8], width: usize, mask: u64) -> [u64; 64]
 {
     let mut entries = [0u64; 64];
     let mut bits = mask;
-    let mut at = 14 + width;
+    let mut at = HEAD + width;
     let mut panel = 0;
     while panel < 64 {
         if bits % 2 == 1 {
@@ -84,6 +86,6 @@ pub fn read(frame: &[u8]) -> Fields
         deadline: deadline_in(frame, width),
         mask,
         entries,
-        payload_length: frame[14 + width + width * entry_count(frame, width)],
+        payload_length: frame[HEAD + width + width * entry_count(frame, width)],
     }
 }

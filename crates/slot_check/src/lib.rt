@@ -2,6 +2,7 @@
 // Precondition: the bytes of slots.
 use frame::DEADLINE_AT;
 use frame::ENTRIES_AT;
+use frame::MARK_AND_VERSION;
 use frame::MASK_AT;
 use frame::WIDTH;
 use numbers::number_at;
@@ -19,7 +20,7 @@ ghost use Rattle.slots.specs.Slots.{slotLength, framed, Slots, firstSlots, held
 // which are left of it without the length and the low six bits of the source.
 const LENGTH_UNIT: u64 = 0x1000000000000;
 
-const MARK_AND_VERSION: u64 = 0x4452590002 * 4;
+const SLOT_HEAD: u64 = MARK_AND_VERSION * 4;
 
 // Where the deadline stands in a slot, the mask, and the entries: behind the length in 16 bits.
 const SLOT_DEADLINE_AT: usize = 2 + DEADLINE_AT;
@@ -36,7 +37,7 @@ fn holds_frame(slot: &[u8]) -> bool
     ensures { λ r. ⌜ r ≡ eqb (refusal width (framed (now (slot .entry)))) 0 ⌝ }
 {
     let head = number_at(slot, 0, 8);
-    if head % LENGTH_UNIT / 64 != MARK_AND_VERSION {
+    if head % LENGTH_UNIT / 64 != SLOT_HEAD {
         return false;
     }
     let deadline = number_at(slot, SLOT_DEADLINE_AT, WIDTH);

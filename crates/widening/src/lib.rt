@@ -3,6 +3,7 @@
 // the longest frame; a receive and a trace have both.
 use frame::DEADLINE_AT;
 use frame::ENTRIES_AT;
+use frame::HEAD;
 use frame::NARROW;
 use frame::WIDTH;
 use numbers::number_at;
@@ -21,7 +22,7 @@ ghost use Rattle.frame.specs.Reading.{refusal, messageIn};
 // Where the mask stands in a frame of version 1, and where the entries do.
 const NARROW_MASK_AT: usize = DEADLINE_AT + NARROW;
 
-const NARROW_ENTRIES_AT: usize = NARROW_MASK_AT + 8;
+const NARROW_ENTRIES_AT: usize = HEAD + NARROW;
 
 // Puts so many entries of a frame of version 1, each in the bytes that it has in version 2.
 fn widen_entries(buffer: &mut [u8], frame: &[u8], count: usize)

@@ -3,6 +3,7 @@
 // Preconditions of what puts a part of a frame: room in the buffer.
 use frame::DEADLINE_AT;
 use frame::ENTRIES_AT;
+use frame::MARK_AND_VERSION;
 use frame::MASK_AT;
 use frame::WIDTH;
 use numbers::put_bytes;
@@ -66,9 +67,6 @@ fn mask_of(entries: &[u64]) -> u64
     }
     mask
 }
-
-// Mark and version, as the number in their five bytes.
-const MARK_AND_VERSION: u64 = 0x4452590002;
 
 // Puts the fields up to the mask.
 pub fn put_head(buffer: &mut [u8], source: u8, deadline: u64, mask: u64)

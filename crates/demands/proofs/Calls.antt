@@ -29,6 +29,8 @@ use Rattle.by_value.proofs.panel_set_back.Statement as panel-set-back
 use Rattle.by_value.proofs.panel_set_back.Met as panel-set-back-theorem
 use Rattle.frame_check.proofs.frame_check.Statement as frame-check
 use Rattle.frame_check.proofs.frame_check.Met as frame-check-theorem
+use Rattle.frame_check.proofs.is_narrow.Statement as is-narrow
+use Rattle.frame_check.proofs.is_narrow.Met as is-narrow-theorem
 use Rattle.reading.proofs.read.Statement as read
 use Rattle.reading.proofs.read.Met as read-theorem
 use Rattle.reading.proofs.payload.Statement as payload
@@ -74,6 +76,7 @@ pub record Calls (M : Type 1) : Type 2 where
   pub panel-trace : panel-trace.statement M
   -- Frames, checked (crates/frame_check/src/lib.rt), read (crates/reading/src/lib.rt) and written (crates/writing/src/lib.rt, which is internal).
   pub frame-check : frame-check.statement M
+  pub is-narrow : is-narrow.statement M
   pub read : read.statement M
   pub payload : payload.statement M
   pub write : write.statement M
@@ -106,6 +109,7 @@ calls =
       panel-set-back = panel-set-back-theorem.met;
       panel-trace = panel-trace-theorem.met;
       frame-check = frame-check-theorem.met;
+      is-narrow = is-narrow-theorem.met;
       read = read-theorem.met;
       payload = payload-theorem.met;
       write = write-theorem.met;

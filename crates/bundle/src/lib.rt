@@ -2,13 +2,10 @@
 // its place, and gives the next frame as a part of the slice, or end, or broken. Each public
 // function accepts any input.
 use numbers::number_at;
-use reading::Fields;
 ghost use mathlib.Core.Path.{_≡_};
 ghost use Prim.Native.Nat.{_+_, _≤_};
 ghost use lib.ListN.{length, take, drop};
-ghost use Rattle.frame.specs.Reading.{readingOf};
-ghost use Rattle.reading.specs.Answer.{fieldsOf};
-ghost use Rattle.bundle.specs.Bundle.{stepAt, frameAt, Part, FramePart, Gives, answerOf};
+ghost use Rattle.bundle.specs.Bundle.{stepAt, Part, FramePart, Gives, answerOf};
 
 // What stands at a place: a frame, from start on, of so many bytes, and the place behind it; the end;
 // or broken. With end and broken the place stays.
@@ -136,12 +133,4 @@ pub fn part_at(bundle: &[u8], place: usize) -> &[u8]
     ensures { λ r. ⌜ FramePart (bundle .entry) place r ⌝ }
 {
     next(Reader { bundle, place }).part
-}
-
-// The reading of the frame at a place: the part in the middle of the bundle is passed to the frame
-// reading.
-pub fn read_at(bundle: &[u8], place: usize) -> Fields
-    ensures { λ r. ⌜ r ≡ fieldsOf (readingOf (frameAt (now (bundle .entry)) place)) ⌝ }
-{
-    reading::read(part_at(bundle, place))
 }

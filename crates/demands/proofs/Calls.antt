@@ -35,6 +35,8 @@ use Rattle.reading.proofs.read.Statement as read
 use Rattle.reading.proofs.read.Met as read-theorem
 use Rattle.reading.proofs.payload.Statement as payload
 use Rattle.reading.proofs.payload.Met as payload-theorem
+use Rattle.reading.proofs.read_at.Statement as read-at
+use Rattle.reading.proofs.read_at.Met as read-at-theorem
 use Rattle.writing.proofs.write.Statement as write
 use Rattle.writing.proofs.write.Met as write-theorem
 use Rattle.log_records.proofs.panel_log_fields.Statement as panel-log-fields
@@ -47,8 +49,6 @@ use Rattle.bundle.proofs.step_at.Statement as step-at
 use Rattle.bundle.proofs.step_at.Met as step-at-theorem
 use Rattle.bundle.proofs.part_at.Statement as part-at
 use Rattle.bundle.proofs.part_at.Met as part-at-theorem
-use Rattle.bundle.proofs.read_at.Statement as read-at
-use Rattle.bundle.proofs.read_at.Met as read-at-theorem
 use Rattle.bundle.proofs.new.Statement as new
 use Rattle.bundle.proofs.new.Met as new-theorem
 use Rattle.bundle.proofs.next.Statement as next
@@ -74,11 +74,13 @@ pub record Calls (M : Type 1) : Type 2 where
   pub panel-clock : panel-clock.statement M
   pub panel-set-back : panel-set-back.statement M
   pub panel-trace : panel-trace.statement M
-  -- Frames, checked (crates/frame_check/src/lib.rt), read (crates/reading/src/lib.rt) and written (crates/writing/src/lib.rt, which is internal).
+  -- Frames, checked (crates/frame_check/src/lib.rt), read, by themselves or in a bundle (crates/reading/src/lib.rt), and written
+  -- (crates/writing/src/lib.rt, which is internal).
   pub frame-check : frame-check.statement M
   pub is-narrow : is-narrow.statement M
   pub read : read.statement M
   pub payload : payload.statement M
+  pub read-at : read-at.statement M
   pub write : write.statement M
   -- Log records read (crates/log_records/src/lib.rt).
   pub panel-log-fields : panel-log-fields.statement M
@@ -87,7 +89,6 @@ pub record Calls (M : Type 1) : Type 2 where
   pub panel-bundle-step : panel-bundle-step.statement M
   pub step-at : step-at.statement M
   pub part-at : part-at.statement M
-  pub read-at : read-at.statement M
   pub new : new.statement M
   pub next : next.statement M
 
@@ -112,13 +113,13 @@ calls =
       is-narrow = is-narrow-theorem.met;
       read = read-theorem.met;
       payload = payload-theorem.met;
+      read-at = read-at-theorem.met;
       write = write-theorem.met;
       panel-log-fields = panel-log-fields-theorem.met;
       log-payload = log-payload-theorem.met;
       panel-bundle-step = panel-bundle-step-theorem.met;
       step-at = step-at-theorem.met;
       part-at = part-at-theorem.met;
-      read-at = read-at-theorem.met;
       new = new-theorem.met;
       next = next-theorem.met;
     }

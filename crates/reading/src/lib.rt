@@ -1,5 +1,6 @@
-// The reading of a frame of either version: its fields by value, and its payload as a part of the
-// caller's bytes. Each public function accepts any input.
+// The reading of a frame of either version, by itself or in a bundle: its fields by value, and its
+// payload as a part of the caller's bytes. Each public function accepts any input.
+use bundle::part_at;
 use frame::BARE;
 use frame::DEADLINE_AT;
 use frame::HEAD;
@@ -17,6 +18,7 @@ ghost use Rattle.numbers.specs.Numbers.{numbersAt};
 ghost use Rattle.frame.specs.Message.{byPanel};
 ghost use Rattle.frame.specs.Frame.{Width};
 ghost use Rattle.frame.specs.Reading.{readingOf};
+ghost use Rattle.bundle.specs.Bundle.{frameAt};
 ghost use Rattle.reading.specs.Answer.{fieldsOf, PayloadPart};
 
 // The payload as the part of the caller's bytes that it occupies; for bytes turned down the empty
@@ -88,4 +90,11 @@ pub fn read(frame: &[u8]) -> Fields
         entries,
         payload_length: frame[HEAD + width + width * entry_count(frame, width)],
     }
+}
+
+// The reading of the frame at a place of a bundle: the part in the middle of the bundle is passed on.
+pub fn read_at(bundle: &[u8], place: usize) -> Fields
+    ensures { λ r. ⌜ r ≡ fieldsOf (readingOf (frameAt (now (bundle .entry)) place)) ⌝ }
+{
+    read(part_at(bundle, place))
 }

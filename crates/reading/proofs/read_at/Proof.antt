@@ -1,12 +1,12 @@
--- `bundle::read_at` meets its contract: the part holds the frame's bytes. Assumes nothing.
+-- `reading::read_at` meets its contract: the part holds the frame's bytes. Assumes nothing.
 use mathlib.Core.Path.{ap, _∙_}
 use mathlib.Core.List.{List}
 use Prim.Native.Nat.{ℕ}
 use borrow.Author.Needs.{needs}
 use Rattle.frame.specs.Reading.{readingOf}
 use Rattle.reading.specs.Answer.{fieldsOf}
-use Rattle.bundle.proofs.read_at.Statement.{statement}
-use Rattle.bundle.proofs.read_at.Tie as tie
+use Rattle.reading.proofs.read_at.Statement.{statement}
+use Rattle.reading.proofs.read_at.Tie as tie
 
 part-at-requires : tie.Need-part-at-requires
 part-at-requires c κs = search needs

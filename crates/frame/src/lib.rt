@@ -49,16 +49,15 @@ pub fn deadline_in(frame: &[u8], width: usize) -> u64
     number_at(frame, DEADLINE_AT, 8) >> (64 - 8 * width)
 }
 
-// The entry at a place: its first four bytes, and in version 2 four more.
+// The entry at a place.
 pub fn entry_at(frame: &[u8], at: usize, width: usize) -> u64
     requires { ⌜ Width width × (at + width ≤ length (now frame)) ⌝ }
     ensures { λ r. ⌜ r ≡ numberAt (now (frame .entry)) at width ⌝ }
 {
-    let first = number_at(frame, at, 4);
     if width == NARROW {
-        return first;
+        return number_at(frame, at, NARROW);
     }
-    first * 4294967296 + number_at(frame, at + 4, 4)
+    number_at(frame, at, WIDTH)
 }
 
 // The number of entries: the count of ones in the mask.

@@ -111,10 +111,14 @@ test_rust() {
     grep -q E0507 $built/log || fail "rustc turns tests/copied.rs down otherwise: $(cat $built/log)"
 }
 
-# A second implementation beside the module, without faults and at the same time with planted ones, and
-# the table of frame lengths that it makes.
-test_beside() {
+# A second implementation beside the module, built while other tests run: without faults and at the same
+# time with planted ones, and the table of frame lengths that it makes.
+build_beside() {
     rustc --edition 2021 -O -D warnings -L native=$to/lib -o $built/beside tests/beside/main.rs
+}
+
+test_beside() {
+    wait $building || fail "the second implementation was not built"
     $built/beside --list target/bin/list --faults >$built/faults 2>&1 &
     faults=$!
     $built/beside --list target/bin/list
@@ -130,6 +134,10 @@ test_beside() {
 mkdir -p $built
 say "installing the module to $to"
 install_module
+if [ -z "${WITHOUT_RUST:-}" ]; then
+    build_beside &
+    building=$!
+fi
 say "the program list"
 test_list
 tested=

@@ -1,6 +1,8 @@
 // The status beacon in place, for C, on a record that is lent in its parts; include/panel.h makes of it
 // a call on a pointer to the struct. It accepts any input. A crate and an archive of its own: a second
 // caller of `send_in_place` in `exports` would make every send a call longer.
+#![tactic(auto)]
+
 ghost use Rattle.rules.specs.Calls.{beacon_lifetime};
 ghost use Rattle.rules.specs.Results.{send};
 ghost use Rattle.parts.specs.Record.{parts, PromisedInPlace};

@@ -1,6 +1,8 @@
 // Bundles: a run of frames, each behind its length in 16 bits. The bundle reader keeps the slice and
 // its place, and gives the next frame as a part of the slice, or end, or broken. Each public
 // function accepts any input.
+#![tactic(auto)]
+
 ghost use Rattle.std.specs.Prelude.{◌≡◌, ◌+◌, ◌≤◌, length, take, drop};
 ghost use Rattle.bundle.specs.Bundle.{step_at, Part, FramePart, Gives, answer_of};
 

@@ -1,6 +1,8 @@
 // The checks of a receive: the number of the first that turns a frame down, on a record that is only
 // read. An internal crate. Preconditions: the bytes of slots; a frame that does not read in version 1, and
 // for the last checks one that reads in version 2.
+#![tactic(auto)]
+
 ghost use Rattle.std.specs.Prelude.{◌≡◌, []};
 ghost use Rattle.frame.specs.Refusal.{first_of};
 ghost use Rattle.frame.specs.Reading.{message_in};

@@ -1,5 +1,7 @@
 // The choice: which waiting messages are ready, and which of them goes first. An internal crate.
 // Precondition: slots that hold readable frames; the calls of a panel refuse any other record.
+#![tactic(auto)]
+
 ghost use Rattle.std.specs.Prelude.{◌≡◌, [], ◌∷◌, ◌<◌, length, take};
 ghost use Rattle.frame.specs.Reading.{mask_in, message_in};
 ghost use Rattle.rules.specs.Sizes.{width};

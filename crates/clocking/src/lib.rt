@@ -2,6 +2,8 @@
 // and floor, and beside it the output; the own number it only reads. It accepts any input, and what it
 // promises is document 01's clock, for every argument. An internal crate: `exports` and `by_value` have
 // the public calls.
+#![tactic(auto)]
+
 ghost use Rattle.std.specs.Prelude.{◌≡◌, []};
 ghost use Rattle.frame.specs.Refusal.{first_of};
 ghost use Rattle.rules.specs.Results.{clock};

@@ -1,6 +1,8 @@
 // The calls in place for C, on a record that is lent in its parts; include/panel.h makes of them calls
 // on a pointer to the struct. Each accepts any input, and may touch what the call may (fresh: every
 // part).
+#![tactic(auto)]
+
 ghost use Rattle.std.specs.Prelude.{[]};
 ghost use Rattle.rules.specs.Results.{send, receive, clock};
 ghost use Rattle.parts.specs.Record.{parts, PromisedInPlace};

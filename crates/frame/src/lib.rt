@@ -2,6 +2,8 @@
 // stands in specs/, in document 01's order. An internal crate: the functions take the width of a
 // deadline and of an entry in bytes, 4 in version 1, 8 in version 2. Preconditions: such a width, and
 // as many bytes as are read.
+#![tactic(auto)]
+
 ghost use Rattle.std.specs.Prelude.{◌≡◌, ◌+◌, ◌≤◌, length};
 ghost use Rattle.numbers.specs.Numbers.{number_at};
 ghost use Rattle.frame.specs.Frame.{Width};

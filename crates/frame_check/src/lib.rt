@@ -1,5 +1,7 @@
 // The frame check, for C too: 0, or the refusal number of the reading. It goes through the checks in the
 // order of their table, in one body for both versions. Each public function accepts any input.
+#![tactic(auto)]
+
 ghost use Rattle.std.specs.Prelude.{◌≡◌, ◌+◌, ◌*◌, ◌<◌, ◌≤◌, length, take, ◌==◌};
 ghost use Rattle.numbers.specs.Numbers.{numbers_at};
 ghost use Rattle.frame.specs.Frame.{narrow, Width};

@@ -2,6 +2,8 @@
 // rises to the largest entry that was missed; the log record goes behind those before it, and high, the
 // source's mark and barrier entry become at least the deadline. An internal crate.
 // Preconditions: readable frames, and room in the output; the calls of a panel refuse anything else.
+#![tactic(auto)]
+
 ghost use Rattle.std.specs.Prelude.{◌≡◌, ◌+◌, ◌*◌, ◌≤◌, max, length, get_or, replicate};
 ghost use Rattle.numbers.specs.Buffer.{over};
 ghost use Rattle.frame.specs.Reading.{message_in};

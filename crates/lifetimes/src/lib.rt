@@ -1,5 +1,7 @@
 // Lifetimes and the deadline of a send. An internal crate: a send calls it. Precondition of the deadline:
 // it doesn't pass the last one, which is asked first.
+#![tactic(auto)]
+
 ghost use Rattle.std.specs.Prelude.{◌≡◌, ◌≤◌, ltb};
 ghost use Rattle.rules.specs.Sizes.{last_deadline};
 ghost use Rattle.rules.specs.Calls.{send_deadline};

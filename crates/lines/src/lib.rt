@@ -1,5 +1,7 @@
 // The lines that the program "list" prints, put into a buffer. Each function gives the place behind
 // what it has put. An internal crate. Precondition: room in the buffer.
+#![tactic(auto)]
+
 ghost use Rattle.std.specs.Prelude.{◌+◌, ◌*◌, ◌≤◌, length};
 ghost use Rattle.log_records.specs.LogRecords.{log_record_at};
 ghost use Rattle.text.specs.Put.{Room, Put};

@@ -1,4 +1,6 @@
 // The program "list": reads a bundle from standard input and prints what panel 0 does with it.
+#![tactic(auto)]
+
 mod input;
 
 fn main() {

@@ -1,5 +1,7 @@
 // The listing of a bundle, step by step: each step receives one frame at a panel, in place, and puts its
 // lines. An internal crate. Precondition: a place in the bundle, and room for a step's lines.
+#![tactic(auto)]
+
 ghost use Rattle.std.specs.Prelude.{◌≡◌, true, length};
 ghost use Rattle.parts.specs.Record.{parts, record_of};
 ghost use Rattle.text.specs.Put.{Room};

@@ -1,5 +1,7 @@
 // The listing of a bundle, part after part: a part is the lines of the steps that a lent buffer has room
 // for, which the program "list" writes. An internal crate. Precondition: a place in the bundle.
+#![tactic(auto)]
+
 ghost use Rattle.parts.specs.Record.{parts, record_of};
 ghost use Rattle.listing.specs.Step.{standing, Placed};
 ghost use Rattle.listing_parts.specs.Part.{PartPut};

@@ -1,5 +1,7 @@
 // Log records read: what the record of an index in an output or a log says, and its payload as a
 // part of the log. Each public function accepts any input.
+#![tactic(auto)]
+
 ghost use Rattle.std.specs.Prelude.{◌≡◌};
 ghost use Rattle.log_records.specs.LogRecords.{is_whole, fields_in, log_record_at, PayloadPart};
 

@@ -1,5 +1,7 @@
 // Numbers of several bytes, the highest byte first, in a slice. An internal crate.
 // Precondition: room in the slice; the crates above refuse what is too short.
+#![tactic(auto)]
+
 ghost use Rattle.std.specs.Prelude.{◌≡◌, ◌+◌, ◌^◌, ◌≤◌, ◌<◌, length};
 ghost use Rattle.numbers.specs.Numbers.{big_endian, number_at};
 ghost use Rattle.numbers.specs.Buffer.{over};

@@ -1,5 +1,7 @@
 // The panel's record as a struct, and by value the calls that do not change one: fresh, which makes it,
 // and trace, which looks at it. Both are thin over those in place, and accept any input.
+#![tactic(auto)]
+
 mod trace;
 
 ghost use Rattle.std.specs.Prelude.{◌≡◌};

@@ -2,6 +2,8 @@
 // document 01, case 2's frame in both versions, beacons, one of them too far ahead, a frame of W-204's busy
 // yard, a trace of each frame before its receive, and a panel number above 63. It prints a line for each call; the file stdout
 // beside src/ is what it must print. (tests/ runs all bench cases, in place.)
+#![tactic(auto)]
+
 use frame::BUFFER;
 use panel::Panel;
 use parts::OUTPUT;

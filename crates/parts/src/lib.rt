@@ -7,6 +7,8 @@
 // reference to a struct. So the calls have long lists of parameters, always in the order of the
 // record: own, time, high, count, marks, barrier, slots, floor. A part that a call never changes is given
 // by value, if it is a number.
+#![tactic(auto)]
+
 ghost use Rattle.std.specs.Prelude.{◌≡◌, ◌+◌, ◌*◌, ◌≤◌, ◌&&◌, length};
 ghost use Rattle.frame.specs.Readable.{each_below};
 ghost use Rattle.rules.specs.Sizes.{log_record_length};

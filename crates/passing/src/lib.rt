@@ -1,6 +1,8 @@
 // Passing the entries of a message as it is handed: what it names leaves the barrier, and the floor rises
 // to the largest entry that was missed. An internal crate.
 // Preconditions: readable frames; the calls of a panel refuse anything else.
+#![tactic(auto)]
+
 ghost use Rattle.std.specs.Prelude.{◌≡◌, max, get_or};
 ghost use Rattle.frame.specs.Reading.{message_in};
 ghost use Rattle.rules.specs.Sizes.{width};

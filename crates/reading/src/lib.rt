@@ -1,5 +1,7 @@
 // The reading of a frame of either version, by itself or in a bundle: its fields by value, and its
 // payload as a part of the caller's bytes. Each public function accepts any input.
+#![tactic(auto)]
+
 ghost use Rattle.std.specs.Prelude.{◌≡◌, ◌+◌, ◌*◌, ◌≤◌, length};
 ghost use Rattle.std.specs.Int.Count.{ones_in};
 ghost use Rattle.numbers.specs.Numbers.{numbers_at};

@@ -2,6 +2,8 @@
 // floor, and beside it the output; own number and time it only reads. It accepts any input, and what it
 // promises is document 01's receive, for every argument. An internal crate: `exports` and `by_value`
 // have the public calls.
+#![tactic(auto)]
+
 ghost use Rattle.std.specs.Prelude.{◌≡◌, true, ◌⊎◌, [], ◌+◌, ◌*◌, ◌≤◌, ◌<◌, length};
 ghost use Rattle.frame.specs.Reading.{message_in};
 ghost use Rattle.rules.specs.Sizes.{width, log_record_length};

@@ -2,6 +2,8 @@
 // floor, and beside it the output and the frame buffer; own number and time it only reads. It accepts any
 // input, and what it promises is document 01's send, for every argument. An internal crate: `exports`,
 // `beacon` and `by_value` have the public calls.
+#![tactic(auto)]
+
 ghost use Rattle.std.specs.Prelude.{◌≡◌};
 ghost use Rattle.frame.specs.Refusal.{first_of};
 ghost use Rattle.rules.specs.Results.{send};

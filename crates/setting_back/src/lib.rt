@@ -2,6 +2,8 @@
 // lent in its parts; include/panel.h makes of it a call on a pointer to the struct. Of the record it may
 // touch the time alone. It accepts any input. A crate and an archive of its own: the object of
 // the other calls is not longer by it.
+#![tactic(auto)]
+
 ghost use Rattle.std.specs.Prelude.{[]};
 ghost use Rattle.rules.specs.Results.{set_back};
 ghost use Rattle.parts.specs.Record.{parts, PromisedInPlace};

@@ -1,6 +1,8 @@
 // Settling: while some waiting message is ready, the chosen one leaves the list and is handed. An
 // internal crate. Preconditions: slots that hold readable frames, and room in the output; the calls of a
 // panel refuse anything else.
+#![tactic(auto)]
+
 ghost use Rattle.std.specs.Prelude.{◌≡◌, ◌+◌, ◌*◌, ◌≤◌, ◌<◌, length, get_or};
 ghost use Rattle.rules.specs.Sizes.{log_record_length};
 ghost use Rattle.slots.specs.Slots.{Slots, Listed};

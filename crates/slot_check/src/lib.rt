@@ -1,5 +1,7 @@
 // Whether slots hold readable frames, the last thing that refusal 26 looks at. An internal crate.
 // Precondition: the bytes of slots.
+#![tactic(auto)]
+
 ghost use Rattle.std.specs.Prelude.{◌≡◌, ◌≤◌, length, eqb};
 ghost use Rattle.frame.specs.Reading.{refusal};
 ghost use Rattle.rules.specs.Sizes.{width};

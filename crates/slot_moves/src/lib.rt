@@ -1,5 +1,7 @@
 // What changes slots: a frame is put into one, and frames move up to the first. An internal crate.
 // Preconditions: slots, room and readable frames, which the calls of a panel have.
+#![tactic(auto)]
+
 ghost use Rattle.std.specs.Prelude.{◌≡◌, ◌++◌, ◌+◌, ◌*◌, ◌≤◌, ◌<◌, length, take, drop};
 ghost use Rattle.numbers.specs.Numbers.{big_endian};
 ghost use Rattle.numbers.specs.Buffer.{over};

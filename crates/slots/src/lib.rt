@@ -1,6 +1,8 @@
 // The waiting list as it lies in a panel's record, and what is read there: 32 slots, each with the
 // length of a frame in 16 bits and then the frame, of version 2. An internal crate. Precondition: slots that
 // hold readable frames; the calls of a panel refuse any other record.
+#![tactic(auto)]
+
 ghost use Rattle.std.specs.Prelude.{◌≡◌, ◌&&◌, ◌<◌, eqb};
 ghost use Rattle.frame.specs.Reading.{mask_in, message_in};
 ghost use Rattle.rules.specs.Sizes.{width};

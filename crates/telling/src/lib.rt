@@ -1,6 +1,8 @@
 // Calls by value that tell what came of them, for the programs that show cases: each prints a line with
 // the panel, the number of the answer, and the counts of log records and of waiting messages. An
 // internal crate.
+#![tactic(auto)]
+
 use panel::Panel;
 use parts::OUTPUT;
 use tracing::Trace;

@@ -1,5 +1,7 @@
 // Text put into a buffer: words, decimal and hexadecimal numbers. Each function gives the place behind
 // what it has put. An internal crate. Precondition: room in the buffer.
+#![tactic(auto)]
+
 ghost use Rattle.std.specs.Prelude.{◌≡◌, ◌∷◌, [], ◌++◌, ◌+◌, ◌*◌, ◌<◌, ◌≤◌, length};
 ghost use Rattle.text.specs.Text.{ascii, decimal, hexadecimal};
 ghost use Rattle.text.specs.Text.{digit as digitOf};

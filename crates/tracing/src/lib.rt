@@ -1,6 +1,8 @@
 // A trace, on a record that is lent in its parts and only read; include/panel.h makes of it a call on a
 // pointer to the struct. It accepts any input. A crate and an archive of its own: what a receive calls
 // stays as short as it is where nobody asks for the visits.
+#![tactic(auto)]
+
 ghost use Rattle.std.specs.Prelude.{◌≡◌, cond};
 ghost use Rattle.visits.specs.Visiting.{trace};
 ghost use Rattle.parts.specs.Record.{parts, record_of};

@@ -1,6 +1,8 @@
 // A frame of version 1 as the frame of version 2 that carries the same message, in a lent buffer. An
 // internal crate. Preconditions: bytes that read as a message in version 1, and room in the buffer for
 // the longest frame; a receive and a trace have both.
+#![tactic(auto)]
+
 ghost use Rattle.std.specs.Prelude.{◌≡◌, ◌+◌, ◌*◌, ◌≤◌, length, take};
 ghost use Rattle.numbers.specs.Numbers.{big_endians, numbers_at};
 ghost use Rattle.numbers.specs.Buffer.{over};

@@ -1,6 +1,8 @@
 // Writing a frame of version 2 into a lent buffer. `write` accepts any input; 0 is its answer where no
 // frame is written, which is no number of document 01. An internal crate: a send writes the frames.
 // Preconditions of what puts a part of a frame: room in the buffer.
+#![tactic(auto)]
+
 ghost use Rattle.std.specs.Prelude.{◌≡◌, ◌++◌, ◌+◌, ◌*◌, ◌≤◌, ◌<◌, length};
 ghost use Rattle.numbers.specs.Numbers.{big_endian, big_endians};
 ghost use Rattle.numbers.specs.Buffer.{over};

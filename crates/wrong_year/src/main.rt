@@ -3,6 +3,8 @@
 // year, and the panel is deaf. Set back, it still refuses the hold; what comes later is taken. (The
 // hold and its lifting are of version 1, what comes later of version 2.) It
 // prints a line for each call; the file stdout beside src/ is what it must print.
+#![tactic(auto)]
+
 use telling::{at, clock, print, receive, set_back};
 
 fn main() {

@@ -107,8 +107,8 @@ pub numbers_at-big_endians : (width : ℕ) (ns rest : List ℕ) → ((i : ℕ) �
 unfolding numbers_at big_endians
 numbers_at-big_endians width [] rest h = refl
 numbers_at-big_endians width (n ∷ ns) rest h =
-    rw (
-      append_assoc,
+    ap (λ (l : List ℕ). numbers_at l 0 width (suc (length ns))) (append_assoc (big_endian width n) (big_endians width ns) rest)
+    ∙ rw (
       number_at_big_endian width n (big_endians width ns ++ rest) (h 0),
       zero-add,
       numbers_at-drop (big_endian width n ++ (big_endians width ns ++ rest)) width width (length ns),

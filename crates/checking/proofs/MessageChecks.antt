@@ -88,12 +88,12 @@ module _ (own time : ℕ) (marks slots : List ℕ) (count floor : ℕ) (m : Mess
 pub full_room : (waiting : ℕ) (is_ready : Bool) → waiting < 32 → 0 ≡ full_number waiting is_ready
 full_room waiting is_ready lt = rw (lt-leb 32 waiting lt)
 
-and_false : (a : Bool) → (a && false) ≡ false
-and_false true = refl
-and_false false = refl
+and-false : (a : Bool) → (a && false) ≡ false
+and-false true = refl
+and-false false = refl
 
 pub full_ready : (waiting : ℕ) (is_ready : Bool) → is_ready ≡ true → 0 ≡ full_number waiting is_ready
-full_ready waiting is_ready e = rw (e, and_false (leb 32 waiting))
+full_ready waiting is_ready e = rw (e, and-false (leb 32 waiting))
 
 pub full_unready : (waiting : ℕ) (is_ready : Bool) → 32 ≤ waiting → is_ready ≡ false → 23 ≡ full_number waiting is_ready
 full_unready waiting is_ready le e = rw (e, le-leb 32 waiting le)

@@ -20,7 +20,7 @@ use Rattle.rules.specs.Refusals.{broken, set_back_checks}
 use Rattle.rules.specs.Results.{Call, send, receive, clock, set_back, effect_of, Result, refused, done, defined}
 use Rattle.rules.specs.Lists.{Made, on, record_at, given_to, time_after, time_at, Sent, sends, Lawful, AllPromised}
 use Rattle.rules.specs.Lapsing.{entries_sent, mark_in, floor_handed, floor_after, floor_at}
-use Rattle.rules.proofs.Booleans.{not_true, cond_both}
+use Rattle.rules.proofs.Booleans.{not-true, cond_both}
 use Rattle.rules.proofs.Ready.{dead_floor}
 use Rattle.rules.proofs.Missed.{missed-lapsed}
 use Rattle.rules.proofs.Settling.{settle_induction}
@@ -130,7 +130,7 @@ below_time (last ∷ earlier) (given, lawful) (promise, promised) panel never =
         let p = given_to last.at last.make earlier in
         let time = time_at last.at earlier in
         let other : is_set_back last.call ≡ false =
-        not_true _ (subst (λ (b : Bool). not (b && is_set_back last.call) ≡ true) (eq-eqb panel last.at e) clear) in
+        not-true _ (subst (λ (b : Bool). not (b && is_set_back last.call) ≡ true) (eq-eqb panel last.at e) clear) in
         let rises : time ≤ time_after time last.call last.result =
         subst⁻¹ (λ (r : Result). time ≤ time_after time last.call r) promise
         (time_rises p last.call time other ((list_sound earlier lawful promised).sites last.at).time) in

@@ -12,7 +12,7 @@ use Rattle.rules.specs.Panel.{Make, Panel, of_make, fresh}
 use Rattle.rules.specs.Results.{Call, Result, defined}
 use Rattle.rules.specs.Lists.{Made, on, record_at, given_to, Lawful, ran}
 use Rattle.rules.specs.Cases.{with_floor}
-use Rattle.rules.proofs.Booleans.{not_true}
+use Rattle.rules.proofs.Booleans.{not-true}
 use Rattle.rules.proofs.Theorems.{every_list}
 use Rattle.floors.specs.Floors.{is_set_back, never_set_back, IdleFloor, AlikeButFloor, kept_by, ran_where, LogsInOrder}
 use Rattle.floors.proofs.NoFloor.{no_floor_needed}
@@ -104,7 +104,7 @@ module _ (keeps : ℕ → Bool) where
       (same_lists earlier (λ panel none. (never_both panel _ (ran_where keeps earlier) (clear panel none)).1))
       at make call
       (λ none.
-      not_true _
+      not-true _
       (subst (λ (here : Bool). not (here && is_set_back call) ≡ true) (eq-eqb at at refl)
       (never_both at _ (ran_where keeps earlier) (clear at none)).0))
 

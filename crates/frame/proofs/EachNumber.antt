@@ -1,6 +1,6 @@
 -- Laws of `each_earlier` and `each_below`, the tests on every number of a list: what they say, and how a loop finds them. Assumes nothing.
 use mathlib.Core.Path.{◌≡◌, refl}
-use mathlib.Core.Bool.{Bool, true, false, ◌&&◌, and_false}
+use mathlib.Core.Bool.{Bool, true, false, ◌&&◌, and-false}
 use mathlib.Core.List.{List, [], ◌∷◌}
 use Prim.Native.Nat.{ℕ, zero, suc, ◌+◌, ◌-◌, ◌≤◌, ◌<◌}
 use native.Mathlib.Numerals.{sub-one}
@@ -47,7 +47,7 @@ module _ (deadline : ℕ) (bs : List ℕ) (at width : ℕ) where
   pub each_earlier_late : (left : ℕ) → 0 < left → deadline ≤ number_at bs at width → each_earlier deadline (numbers_at bs at width left) ≡ false
   unfolding each_earlier numbers_at
   each_earlier_late zero h e = absurd (omega arith)
-  each_earlier_late (suc left) h e = simp (le-ltb (number_at bs at width) deadline e, and_false)
+  each_earlier_late (suc left) h e = simp (le-ltb (number_at bs at width) deadline e, and-false)
 
   pub each_earlier_outside : (left : ℕ) → 0 < left → (0 < number_at bs at width → deadline ≤ number_at bs at width)
       → each_earlier deadline (numbers_at bs at width left) ≡ false

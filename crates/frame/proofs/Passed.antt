@@ -7,7 +7,7 @@ use native.Mathlib.Nat.{le_of_eq, le_antisymm}
 use native.Mathlib.Omega.{arith}
 use lib.ListN.{length, take, drop, length-drop, take-append-drop}
 use lib.Seq.{drop-drop}
-use borrow.Author.Tests.{le-ltb, eq-eqb, ne_eqb, ltb-false, eqb-true, eqb-false, not_false}
+use borrow.Author.Tests.{le-ltb, eq-eqb, ne_eqb, ltb-false, eqb-true, eqb-false, not-false}
 use Rattle.numbers.specs.Numbers.{Bytes}
 use Rattle.numbers.proofs.Bytes.{Bytes-drop}
 use Rattle.numbers.proofs.NumberAt.{big_endian_number_at, number_at_lt, big_endians-numbers_at, length-numbers_at}
@@ -54,12 +54,12 @@ zero_passed width bs e =
     let passes = applies-none (checks width bs) refl e in
     record {
       long = ltb-false _ _ (passes 0);
-      mark = eqb-true _ _ (not_false _ (passes 1));
-      version = eqb-true _ _ (not_false _ (passes 2));
+      mark = eqb-true _ _ (not-false _ (passes 1));
+      version = eqb-true _ _ (not-false _ (passes 2));
       source = ltb-false _ _ (passes 4);
       deadline = eqb-false _ _ (passes 5);
       room = ltb-false _ _ (passes 6);
-      entries = not_false _ (passes 7);
+      entries = not-false _ (passes 7);
       payload = ltb-false _ _ (passes 8);
       whole = le_antisymm (ltb-false _ _ (passes 9)) (ltb-false _ _ (passes 10));
     }

@@ -1,6 +1,6 @@
 -- What `readable` says of a message. Assumes nothing.
 use mathlib.Core.Path.{◌≡◌}
-use mathlib.Core.Bool.{true, false, and_false}
+use mathlib.Core.Bool.{true, false, and-false}
 use Prim.Native.Nat.{ℕ, ◌^◌, ◌≤◌, ◌<◌}
 use native.Mathlib.Omega.{arith}
 use lib.Dec.{ltb, leb, eqb}
@@ -57,4 +57,4 @@ true-readable width m e =
 -- a message of deadline 0 has no frame
 pub readable_deadline : (width : ℕ) (m : Message) → m.deadline ≡ 0 → readable width m ≡ false
 unfolding readable
-readable_deadline width m e = simp (le-ltb 0 m.deadline (omega arith), and_false)
+readable_deadline width m e = simp (le-ltb 0 m.deadline (omega arith), and-false)

@@ -24,7 +24,7 @@ use Rattle.rules.specs.Panel.{name_of, Panel, ready}
 use Rattle.rules.specs.Calls.{send_deadline, new_message}
 use Rattle.rules.specs.Refusals.{some_above, each_readable, broken, is_waiting, farthest_ahead, too_far_ahead, send_checks, message_checks, receive_checks, clock_checks, set_back_checks}
 use Rattle.rules.specs.Lists.{◌is_in◌}
-use Rattle.rules.proofs.Booleans.{and_either, or_neither, not_false}
+use Rattle.rules.proofs.Booleans.{and_either, or_neither, not-false}
 use Rattle.rules.proofs.Ready.{limit, lapsed-false}
 use Rattle.rules.proofs.WaitingList.{is_waiting-false}
 use Rattle.rules.proofs.LogRecords.{EachReadable}
@@ -62,11 +62,11 @@ broken-false p e =
       marks = below p.marks m;
       barrier = below p.barrier b;
       count = ltb-false 32 (length p.waiting) c;
-      waiting = each_readable-true p.waiting (not_false (each_readable p.waiting) w);
+      waiting = each_readable-true p.waiting (not-false (each_readable p.waiting) w);
     }
   where
     below : (ns : List ℕ) → some_above p.high ns ≡ false → (k : ℕ) → get_or ns k 0 ≤ p.high
-    below ns f k = omega (arith, each_below-lt (p.high + 1) ns (omega arith) (not_false (each_below (p.high + 1) ns) f) k)
+    below ns f k = omega (arith, each_below-lt (p.high + 1) ns (omega arith) (not-false (each_below (p.high + 1) ns) f) k)
 
 pub false-broken : (p : Panel) → Valid p → broken p ≡ false
 unfolding broken
@@ -149,7 +149,7 @@ receive_passed p bytes output e =
       near = ltb-false (p.time + farthest_ahead) m.deadline (passed 2);
       above_mark = leb-false m.deadline (get_or p.marks m.source 0) above;
       not_waiting = is_waiting-false m p.waiting new;
-      room = ⊎_elim (λ f. inl (leb-false 32 (length p.waiting) f)) (λ f. inr (not_false (ready p m) f))
+      room = ⊎_elim (λ f. inl (leb-false 32 (length p.waiting) f)) (λ f. inr (not-false (ready p m) f))
           (and_either (leb 32 (length p.waiting)) (not (ready p m)) (passed 4));
     }
 

@@ -26,7 +26,7 @@ use Rattle.rules.specs.Refusals.{broken, farthest_ahead, too_far_ahead, send_che
 use Rattle.rules.specs.Results.{Call, send, receive, clock, set_back, effect_of, refused, done, defined}
 use Rattle.rules.specs.Lists.{◌is_in◌, Made, record_at, sends, Before, Lawful, AllPromised}
 use Rattle.rules.specs.FarAhead.{FarAhead}
-use Rattle.rules.proofs.Booleans.{not_true, cond_both}
+use Rattle.rules.proofs.Booleans.{not-true, cond_both}
 use Rattle.rules.proofs.Ready.{limit-with_waiting, limit-lapsed}
 use Rattle.rules.proofs.Raise.{raise-le}
 use Rattle.rules.proofs.WaitingList.{alive_is_in}
@@ -41,7 +41,7 @@ use Rattle.rules.proofs.Reached.{list_sound}
 -- a table without 32 does not answer it
 without_32 : (table : List (Bool × ℕ)) → each_number (λ n. not (eqb n 32)) table ≡ true → first_of table ≢ 32
 without_32 table each =
-    eqb-false (first_of table) 32 (not_true (eqb (first_of table) 32) (first_of_each (λ n. not (eqb n 32)) table refl each))
+    eqb-false (first_of table) 32 (not-true (eqb (first_of table) 32) (first_of_each (λ n. not (eqb n 32)) table refl each))
 
 module _ (p : Panel) where
   send_never : (payload : List ℕ) (lifetime : ℕ) (output buffer : List ℕ) → (defined p (send payload lifetime output buffer)).number ≢ 32

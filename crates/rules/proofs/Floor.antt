@@ -18,7 +18,7 @@ use Rattle.rules.specs.Panel.{Name, name_of, Panel, has_lapsed}
 use Rattle.rules.specs.Handing.{missed, missed_at, hand}
 use Rattle.rules.specs.Lists.{◌is_in◌, Sent, Before, direct}
 use Rattle.rules.specs.Lapsing.{same_name, entries_sent, mark_in, floor_handed, is_one_of, not_dropped}
-use Rattle.rules.proofs.Booleans.{or_either, not_true, cond_both}
+use Rattle.rules.proofs.Booleans.{or_either, not-true, cond_both}
 use Rattle.rules.proofs.Missed.{missed-some}
 use Rattle.rules.proofs.WaitingList.{is_in_end}
 use Rattle.rules.proofs.Cause.{carried, name, named, name_path, SendsSound, before_rises}
@@ -141,7 +141,7 @@ is_in_not_dropped log time floor (x ∷ taken) n i =
     go below true e (first q) = (
       first q,
       ⊎_elim (λ a. inl (Memᴰ.cast q (is_one_of-true x log a)))
-          (λ a. inr (rw q (not_true (has_lapsed time floor x.deadline) a)))
+          (λ a. inr (rw q (not-true (has_lapsed time floor x.deadline) a)))
           (or_either (is_one_of x log) (not (has_lapsed time floor x.deadline)) e),
     )
     go below true e (later k) = let (a, b) = below k in (later a, b)

@@ -21,7 +21,7 @@ use Rattle.rules.specs.Handing.{log_records}
 use Rattle.rules.specs.Calls.{new_message, setting_back}
 use Rattle.rules.specs.Refusals.{broken, send_checks, message_checks, receive_checks, clock_checks, set_back_checks, is_refusal}
 use Rattle.rules.specs.Results.{Call, send, receive, clock, set_back, output_of, buffer_of, checks_of, effect_of, frame_of, Result, refused, done, unless, defined}
-use Rattle.rules.proofs.Booleans.{not_true}
+use Rattle.rules.proofs.Booleans.{not-true}
 use Rattle.rules.proofs.LogRecords.{EachReadable, length-log_records}
 use Rattle.rules.proofs.Checks.{Valid, send_passed, receive_passed, clock_passed, set_back_passed, new_readable}
 use Rattle.rules.proofs.Handed.{effect_count, sending-readable, receiving-readable, clocking-readable}
@@ -119,4 +119,4 @@ number_26 p call e q =
     let (at_first, rest) = checks_26 p call in
     let past = defined-number p call ∙ pass (checks_of p call) 0 refl (at_first ∙ e) in
     let other = first_of_each (λ n. not (eqb n 26)) (drop 1 (checks_of p call)) refl rest in
-    eqb-false (first_of (drop 1 (checks_of p call))) 26 (not_true (eqb (first_of (drop 1 (checks_of p call))) 26) other) (sym past ∙ q)
+    eqb-false (first_of (drop 1 (checks_of p call))) 26 (not-true (eqb (first_of (drop 1 (checks_of p call))) 26) other) (sym past ∙ q)

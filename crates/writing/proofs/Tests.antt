@@ -1,6 +1,6 @@
 -- How code finds whether a message has a frame: the entries as a loop goes down, and `readable` test by test. Assumes nothing.
 use mathlib.Core.Path.{◌≡◌}
-use mathlib.Core.Bool.{true, false, and-true, and_false}
+use mathlib.Core.Bool.{true, false, and-true, and-false}
 use mathlib.Core.List.{List, [], ◌∷◌}
 use Prim.Native.Nat.{ℕ, zero, suc, ◌-◌, ◌^◌, ◌≤◌, ◌<◌}
 use native.Mathlib.Numerals.{sub-one}
@@ -22,7 +22,7 @@ module _ (limit : ℕ) where
   unfolding each_below
   each_below_not [] i l h = absurd (omega arith)
   each_below_not (n ∷ ns) zero l h = simp (le-ltb n limit h)
-  each_below_not (n ∷ ns) (suc i) l h = simp (each_below_not ns i (omega arith) h, and_false)
+  each_below_not (n ∷ ns) (suc i) l h = simp (each_below_not ns i (omega arith) h, and-false)
 
   -- those behind place i, to a loop that goes down
   pub each_below-none : (ns : List ℕ) (i : ℕ) → length ns ≤ i → each_below limit (drop i ns) ≡ true
@@ -44,7 +44,7 @@ module _ (width : ℕ) (m : Message) where
 
   pub readable_entries : each_below m.deadline m.entries ≡ false → readable width m ≡ false
   unfolding readable
-  readable_entries e = simp (e, and_false)
+  readable_entries e = simp (e, and-false)
 
   -- the last test decides where the others hold
   pub readable_payload : m.source ≤ 63 → (m.deadline ≡ 0 → ⊥) → m.deadline < 256 ^ width → length m.entries ≡ 64

@@ -1,6 +1,6 @@
 -- Laws of writing a frame into a buffer: when it can be written, and that its parts, put one behind the other, are the frame. Assumes nothing.
 use mathlib.Core.Path.{◌≡◌, refl, sym, ◌∙◌}
-use mathlib.Core.Bool.{true, false, and_false}
+use mathlib.Core.Bool.{true, false, and-false}
 use mathlib.Core.List.{List, ◌++◌, flatten, append_assoc, append-nil}
 use Prim.Native.Nat.{ℕ, suc, ◌+◌, ◌*◌, ◌≤◌, ◌<◌}
 use native.Mathlib.Nat.{div-one}
@@ -29,7 +29,7 @@ module _ (width : ℕ) (m : Message) (buffer : List ℕ) where
 
   pub written_short : length buffer < length (frame width m) → (0 ≡ written_length width m buffer) × (buffer ≡ written width m buffer)
   unfolding can_write
-  written_short h = not_written (simp (lt-leb (length (frame width m)) (length buffer) h, and_false))
+  written_short h = not_written (simp (lt-leb (length (frame width m)) (length buffer) h, and-false))
 
   pub written-frame : readable width m ≡ true → length (frame width m) ≤ length buffer
       → (length (frame width m) ≡ written_length width m buffer) × (over buffer 0 (frame width m) ≡ written width m buffer)

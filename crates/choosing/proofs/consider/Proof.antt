@@ -4,7 +4,7 @@ use mathlib.Core.Bool.{true}
 use mathlib.Core.Logic.{⊎_elim}
 use Prim.Native.Nat.{ℕ}
 use borrow.Author.Rules.{rules}
-use borrow.Author.Tests.{not_true, not_false}
+use borrow.Author.Tests.{not-true, not-false}
 use Rattle.frame.specs.Message.{Message}
 use Rattle.frame.specs.Reading.{message_in}
 use Rattle.rules.specs.Sizes.{width}
@@ -44,7 +44,7 @@ first-so-far c =
     ⊎_elim
     (λ w.
     let goes = w.1.ensures ∙ ap₂ (λ (d f : ℕ). goes_before d f s.args.first) (due c.before) (from c.before) in
-    as_first_found (m s) s.args.first _ w.0.taken goes ∙ not_false _ w.2.left)
+    as_first_found (m s) s.args.first _ w.0.taken goes ∙ not-false _ w.2.left)
     (λ w. as_first-none (m s) s.args.first w.left)
     c.if1.branch
 
@@ -70,7 +70,7 @@ returns c =
     let read = goes.before.before in
     let s = start (kept read) in
     let not-before = goes.goes_before.ensures ∙ ap₂ (λ (d f : ℕ). goes_before d f s.args.first) (due read) (from read) in
-    sym (considered_later _ _ (m s) s.args.first (as_first_found (m s) s.args.first _ goes.before.if1.true not-before ∙ not_true _ c.if2.true))
+    sym (considered_later _ _ (m s) s.args.first (as_first_found (m s) s.args.first _ goes.before.if1.true not-before ∙ not-true _ c.if2.true))
 
 mask-requires : tie.Need-mask-requires
 mask-requires c κs = reads (kept c.before)
@@ -82,7 +82,7 @@ returns-2 : tie.Need-returns-2
 returns-2 c =
     let tested = c.before.before in
     let s = start (kept tested.before.before.before) in
-    sym (considered_unready _ _ (m s) _ (sym (is-ready tested) ∙ not_true _ c.if3.true))
+    sym (considered_unready _ _ (m s) _ (sym (is-ready tested) ∙ not-true _ c.if3.true))
 
 returns-3 : tie.Need-returns-3
 returns-3 c =
@@ -90,7 +90,7 @@ returns-3 c =
     let read = tested.before.before.before in
     let s = start (kept read) in
     (λ j. record { found = true; place = s.args.place; deadline = due read j; source = from read j })
-    ∙ (sym (considered-ready _ s.args.place (m s) s.args.first (first-so-far tested.before.before) (sym (is-ready tested) ∙ not_false _ c.if3.false)))
+    ∙ (sym (considered-ready _ s.args.place (m s) s.args.first (first-so-far tested.before.before) (sym (is-ready tested) ∙ not-false _ c.if3.false)))
 
 pub consider_spec : {M : Type 1} → statement M
 consider_spec =

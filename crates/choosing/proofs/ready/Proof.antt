@@ -5,7 +5,7 @@ use mathlib.Core.Path.{◌≡◌, sym, ◌∙◌, subst}
 use Prim.Native.Nat.{ℕ, ◌+◌, ◌-◌, ◌*◌, ◌^◌, ◌≤◌, ◌<◌}
 use native.Mathlib.Omega.{arith}
 use borrow.Author.Rules.{rules}
-use borrow.Author.Tests.{not_true, not_false}
+use borrow.Author.Tests.{not-true, not-false}
 use lib.ListN.{length, get_or}
 use lib.Bits.{and_le_r}
 use Rattle.numbers.specs.Numbers.{number_at}
@@ -69,7 +69,7 @@ tested c = rw (← c.before.before.number-at.ensures.0) (sym c.is-met.ensures)
 returns : tie.Need-returns invariant-loop decreases-loop
 returns c =
     let turn = c.before.before.before.before in
-    let unmet = tested c.before ∙ not_true _ c.if1.true in (
+    let unmet = tested c.before ∙ not-true _ c.if1.true in (
       sym (stop_ready _ _ _ _ _ _ turn.before.loop.invariant turn.loop-test.true unmet),
       stop_visits _ _ _ _ _ _ turn.before.loop.invariant turn.loop-test.true turn.before.before.before.requires.0 unmet,
     )
@@ -86,7 +86,7 @@ loop-less c =
 loop-again : tie.Need-loop-preserved invariant-loop decreases-loop
 loop-again c =
     let turn = c.before.before.before.before in
-    turn_on _ _ _ _ _ _ turn.before.loop.invariant turn.loop-test.true (tested c.before ∙ not_false _ c.if1.false)
+    turn_on _ _ _ _ _ _ turn.before.loop.invariant turn.loop-test.true (tested c.before ∙ not-false _ c.if1.false)
 
 returns-2 : tie.Need-returns-2 invariant-loop decreases-loop
 returns-2 c = (

@@ -1,6 +1,6 @@
 -- `frame_check::check` meets its contract, for every width: at each `return` the checks before it passed, and its own applies. Assumes nothing.
 use Rattle.std.proofs.Common.{◌≡◌, ℕ, ◌+◌, ◌-◌, ◌*◌, ◌<◌, ◌≤◌, Bool, not, List, length, get_or, take, sym, refl, ap, ◌∙◌, ap₂, arith, rules, ltb-false, le-ltb, lt-ltb}
-use borrow.Author.Tests.{eqb-false, not_true, not_false}
+use borrow.Author.Tests.{eqb-false, not-true, not-false}
 use Rattle.numbers.specs.Numbers.{numbers_at}
 use Rattle.numbers.proofs.NumberAt.{number_at_one}
 use Rattle.frame.specs.Refusal.{first_of}
@@ -74,7 +74,7 @@ earlier c =
 
 past3 : (c : tie.Else3) → Past (table (start3 c)) 8
 unfolding checks
-past3 c = pass (table (start3 c)) 7 (past2 c.before.before.before) (ap not (sym (earlier c.before) ∙ not_false _ c.if3.false))
+past3 c = pass (table (start3 c)) 7 (past2 c.before.before.before) (ap not (sym (earlier c.before) ∙ not-false _ c.if3.false))
 
 -- the place of the payload, and the length byte before it
 abbrev counted : tie.Else3 → tie.After-entry-count
@@ -151,7 +151,7 @@ returns-3 : tie.Need-returns-3
 unfolding checks
 returns-3 c =
     stop (table (start2 c.before.before.before)) 7 (past2 c.before.before.before)
-    (ap not (sym (earlier c.before) ∙ not_true _ c.if3.true))
+    (ap not (sym (earlier c.before) ∙ not-true _ c.if3.true))
 
 sub-length : tie.Need-overflow-sub-length
 sub-length c = search rules

@@ -5,7 +5,7 @@ use mathlib.Core.List.{List}
 use Prim.Native.Nat.{ℕ, ◌+◌, ◌*◌}
 use native.Mathlib.Omega.{arith}
 use borrow.Author.Rules.{rules}
-use borrow.Author.Tests.{not_true, not_false}
+use borrow.Author.Tests.{not-true, not-false}
 use Rattle.numbers.proofs.NumberAt.{number_at_one}
 use Rattle.rules.specs.Sizes.{width, log_record_length}
 use Rattle.log_records.specs.LogRecords.{log_record_at, is_whole}
@@ -20,7 +20,7 @@ abbrev index : tie.Else1 → ℕ
 index c = c.before.before.before.args.index
 
 is-whole : (c : tie.Else1) → is_whole (log_record_at (log c) (index c)) ≡ true
-is-whole c = sym c.before.is-whole.ensures ∙ not_false _ c.if1.false
+is-whole c = sym c.before.is-whole.ensures ∙ not-false _ c.if1.false
 
 whole : (c : tie.Else1) → Whole (log c) (index c)
 whole c = true_whole (log c) (index c) (is-whole c)
@@ -31,7 +31,7 @@ is-whole-requires c κs = search rules
 returns : tie.Need-returns
 returns c =
     let a = c.before.before.before.args in
-    sym (fields-none a.log.now a.index (sym c.before.is-whole.ensures ∙ not_true _ c.if1.true))
+    sym (fields-none a.log.now a.index (sym c.before.is-whole.ensures ∙ not-true _ c.if1.true))
 
 mul-start : tie.Need-overflow-mul-start
 mul-start c = omega (arith, (whole c).room)

@@ -1,6 +1,6 @@
 -- `parts::broken` meets its contract: its tests are those of 26, in their order. Assumes nothing.
 use Rattle.std.proofs.Common.{◌≡◌, ◌≤◌, not, sym, ap, ◌∙◌, arith}
-use borrow.Author.Tests.{not_true, not_false}
+use borrow.Author.Tests.{not-true, not-false}
 use Rattle.frame.proofs.Conjunction.{and_both}
 use Rattle.rules.specs.Panel.{Panel as Record}
 use Rattle.rules.specs.Refusals.{each_readable, broken}
@@ -25,7 +25,7 @@ none-above-requires c κs = (c.before.before.before.before.requires.0, c.before.
 returns-2 : tie.Need-returns-2
 returns-2 c =
     let s = c.before.before.before.before.before.before in
-    sym (broken_above (given s) (sym c.before.none_above.ensures ∙ not_true _ c.if2.true))
+    sym (broken_above (given s) (sym c.before.none_above.ensures ∙ not-true _ c.if2.true))
 
 -- past marks and barrier the waiting messages decide
 waiting : (c : tie.Else2) → let s = c.before.before.before.before.before.before in
@@ -33,7 +33,7 @@ waiting : (c : tie.Else2) → let s = c.before.before.before.before.before.befor
 waiting c few =
     let above = c.before in
     let s = above.before.before.before.before.before in
-    let (marks, barrier) = and_both _ _ (sym above.none_above.ensures ∙ not_false _ c.if2.false) in
+    let (marks, barrier) = and_both _ _ (sym above.none_above.ensures ∙ not-false _ c.if2.false) in
     sym
     (broken_waiting (given s) above.before.if1.false marks barrier (omega (arith, length-first_slots s.args.slots.now s.args.count)))
 

@@ -1,6 +1,6 @@
 -- `parts::none_above` meets its contract: one look at all numbers tells it, or each is looked at. Assumes nothing.
 use Rattle.std.proofs.Common.{◌≡◌, ℕ, ◌+◌, ◌<◌, ◌≤◌, Bool, true, ◌&&◌, List, length, get_or, sym, ap, ◌∙◌, ap₂, arith, rules}
-use borrow.Author.Tests.{not_true, not_false}
+use borrow.Author.Tests.{not-true, not-false}
 use Rattle.frame.specs.Readable.{each_below}
 use Rattle.frame.proofs.EachNumber.{lt-each_below}
 use Rattle.parts.proofs.none_above.Statement.{statement}
@@ -31,7 +31,7 @@ returns-2 : tie.Need-returns-2
 returns-2 c =
     let s = c.before.before.before.before.before.before in
     let other = each_below (s.args.limit + 1) s.args.barrier.now in
-    sym (ap (λ (x : Bool). x && other) (sym c.before.each-at-most.ensures ∙ not_true _ c.if3.true))
+    sym (ap (λ (x : Bool). x && other) (sym c.before.each-at-most.ensures ∙ not-true _ c.if3.true))
 
 each-at-most-requires-2 : tie.Need-each-at-most-requires-2
 each-at-most-requires-2 c κs = search rules
@@ -41,7 +41,7 @@ returns-3 c =
     let first = c.before.before in
     let s = first.before.before.before.before.before in
     let other = each_below (s.args.limit + 1) s.args.barrier.now in
-    c.each-at-most2.ensures ∙ sym (ap (λ (x : Bool). x && other) (sym first.each-at-most.ensures ∙ not_false _ c.before.if3.false))
+    c.each-at-most2.ensures ∙ sym (ap (λ (x : Bool). x && other) (sym first.each-at-most.ensures ∙ not-false _ c.before.if3.false))
 
 pub none_above_spec : {M : Type 1} → statement M
 none_above_spec =

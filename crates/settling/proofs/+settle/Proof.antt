@@ -2,7 +2,7 @@
 use mathlib.Core.Path.{sym, ap, ◌∙◌}
 use Prim.Native.Nat.{ℕ, ◌<◌}
 use native.Mathlib.Omega.{arith}
-use borrow.Author.Tests.{not_true, not_false}
+use borrow.Author.Tests.{not-true, not-false}
 use borrow.Fn.Kinds.{In, Out}
 use borrow.Fn.PlainCycle.{Measures, is, falls, and}
 use Rattle.frame.specs.Reading.{message_in}
@@ -81,7 +81,7 @@ below : (t : ℕ) (c : Chosen t) → c.before.before.choice.result.place < (star
 below t c =
     let s = start t c in
     let choice = c.before.before.choice in
-    found_below s.args.slots.now (from t s) s.pre.1.0.1 s.pre.1.0.2 choice.result choice.ensures (not_false _ c.if1.false)
+    found_below s.args.slots.now (from t s) s.pre.1.0.1 s.pre.1.0.2 choice.result choice.ensures (not-false _ c.if1.false)
 
 settle-choice-requires : (t : ℕ) → settle-lts.Need-choice-requires (calls t) (settle-at t) settle.Post
 settle-choice-requires t c κs = c.before.before.before.before.before.requires.1.0
@@ -90,7 +90,7 @@ settle-returns : (t : ℕ) → settle-lts.Need-returns (calls t) (settle-at t) s
 settle-returns t c =
     let choice = c.before.before.choice in
     let s = c.before.before.before.before.before.before.before.before in
-    settles_none s.args.slots.now (from t s) s.requires.1.0.1 s.requires.1.0.2 choice.result choice.ensures (not_true _ c.if1.true)
+    settles_none s.args.slots.now (from t s) s.requires.1.0.1 s.requires.1.0.2 choice.result choice.ensures (not-true _ c.if1.true)
 
 settle-leave-requires : (t : ℕ) → settle-lts.Need-leave-requires (calls t) (settle-at t) settle.Post
 settle-leave-requires t c κs =
@@ -169,7 +169,7 @@ settle-returns-2 t c =
     let choice = b.before.before.choice in
     let s = start t b in
     settles_some s.args.slots.now (from t s) s.pre.1.0.1 s.pre.1.0.2 choice.result choice.ensures
-    (not_false _ b.if1.false) (omega (arith, s.pre.1.1)) _
+    (not-false _ b.if1.false) (omega (arith, s.pre.1.1)) _
     (stage (left s.args.own s.args.time rest.new.1.1.0 rest.result rest.new.1.1.1.1.0 rest.new.1.1.1.1.1.0)
     rest.new.1.1.1.1.1.1.0 rest.new.1.1.1.1.1.1.1.0 rest.new.1.1.1.1.1.1.1.1.0
     rest.new.1.1.1.1.1.1.1.1.1.1.0)

@@ -6,7 +6,7 @@ use native.Mathlib.Nat.{le_of_eq}
 use native.Mathlib.Numerals.{add-one}
 use native.Mathlib.Omega.{arith}
 use borrow.Author.Rules.{rules}
-use borrow.Author.Tests.{not_true, not_false, eqb-true, eqb-false}
+use borrow.Author.Tests.{not-true, not-false, eqb-true, eqb-false}
 use lib.Dec.{eqb}
 use lib.ListN.{length, take, drop, length-drop}
 use lib.Seq.{take_all}
@@ -60,7 +60,7 @@ answered c = sym (rw (slot_at c.before.before) at c.Holds-Frame.ensures)
 returns : tie.Need-returns invariant-loop decreases-loop
 returns c =
     let l = c.before.before.before.before.loop in
-    let unread = answered c.before ∙ not_true _ c.if1.true in
+    let unread = answered c.before ∙ not-true _ c.if1.true in
     sym (sym l.invariant ∙ each_readable_stop _ _ _ (omega arith) (λ reads. eqb-false _ _ unread reads))
 
 add-slot : tie.Need-overflow-add-slot invariant-loop decreases-loop
@@ -74,7 +74,7 @@ loop-again c =
     let l = c.before.before.before.before.loop in
     let slots = c.before.before.before.before.before.before.args.slots.now in
     let known = c.before.before.before.before.before.shared-slice-known.given in
-    let reads = eqb-true _ _ (answered c.before ∙ not_false _ c.if1.false) in
+    let reads = eqb-true _ _ (answered c.before ∙ not-false _ c.if1.false) in
     rw (add-one l.slot) (sym (each_readable-next slots l.slot _ (omega arith) (Bytes_frame_at slots l.slot (λ i. omega (arith, known i))) reads) ∙ l.invariant)
 
 returns-2 : tie.Need-returns-2 invariant-loop decreases-loop

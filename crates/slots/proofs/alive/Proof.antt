@@ -4,7 +4,7 @@ use mathlib.Core.Path.{◌≡◌, refl, sym, ◌∙◌}
 use mathlib.Core.Logic.{⊎_elim}
 use native.Mathlib.Numerals.{add-one}
 use native.Mathlib.Omega.{arith}
-use borrow.Author.Tests.{not_true, not_false}
+use borrow.Author.Tests.{not-true, not-false}
 use lib.ListN.{length, length-set}
 use Rattle.slots.proofs.Framed.{reads_fits}
 use Rattle.slots.proofs.Collecting.{Chosen, chosen_none, chosen-lapsed, chosen-alive, chosen_all}
@@ -64,10 +64,10 @@ loop-again c =
     (λ w. (
       omega arith,
       rw (w.1, w.2, add-one l.slot, add-one l.auto)
-          (chosen-alive _ _ _ _ _ _ l.invariant.1 reads (omega (arith, l.invariant.1.few, s.requires.1.few, l.invariant.2)) (sym late ∙ not_true _ w.0.taken)),
+          (chosen-alive _ _ _ _ _ _ l.invariant.1 reads (omega (arith, l.invariant.1.few, s.requires.1.few, l.invariant.2)) (sym late ∙ not-true _ w.0.taken)),
       rw (w.1, length-set) l.invariant.2,
     ))
-    (λ w. (omega arith, rw (w.1, w.2, add-one) (chosen-lapsed _ _ _ _ _ _ l.invariant.1 reads (sym late ∙ not_false _ w.0.left)), rw w.1 l.invariant.2))
+    (λ w. (omega arith, rw (w.1, w.2, add-one) (chosen-lapsed _ _ _ _ _ _ l.invariant.1 reads (sym late ∙ not-false _ w.0.left)), rw w.1 l.invariant.2))
     c.if1.branch
 
 returns : tie.Need-returns invariant-loop decreases-loop

@@ -1,7 +1,7 @@
 -- `writing::readable` meets its contract: at each `return` the tests so far say whether the message has a frame. Assumes nothing.
 use mathlib.Core.Path.{sym, ◌∙◌}
 use borrow.Author.Rules.{rules}
-use borrow.Author.Tests.{not_true, not_false}
+use borrow.Author.Tests.{not-true, not-false}
 use native.Mathlib.Omega.{arith}
 use Rattle.frame.specs.Message.{Message, message_of}
 use Rattle.frame.specs.Frame.{wide}
@@ -26,7 +26,7 @@ returns-3 : tie.Need-returns-3
 returns-3 c =
     sym
     (readable_entries wide (message c.before.before.before.before.before.before)
-    (sym c.before.each_below.ensures ∙ not_true _ c.if3.true))
+    (sym c.before.each_below.ensures ∙ not-true _ c.if3.true))
 
 returns-4 : tie.Need-returns-4
 returns-4 c =
@@ -34,7 +34,7 @@ returns-4 c =
     let known = past2.before.before in
     let start = known.before.before in
     readable_payload wide (message start) past2.before.if1.false past2.if2.false (omega arith) start.requires
-    (sym c.before.each_below.ensures ∙ not_false _ c.if3.false)
+    (sym c.before.each_below.ensures ∙ not-false _ c.if3.false)
     (λ i. omega (arith, known.shared-slice-known2.given i))
 
 pub readable_spec : {M : Type 1} → statement M

@@ -4,7 +4,7 @@ use mathlib.Core.Bool.{true}
 use mathlib.Core.List.{List}
 use Prim.Native.Nat.{ℕ, ◌+◌, ◌*◌, ◌≤◌}
 use borrow.Author.Rules.{rules}
-use borrow.Author.Tests.{not_true, not_false}
+use borrow.Author.Tests.{not-true, not-false}
 use native.Mathlib.Omega.{arith}
 use lib.Count.{ones, ones-le}
 use lib.ListN.{length}
@@ -38,7 +38,7 @@ abbrev start : tie.After-mask-of → tie.Start
 start c = start0 c.before.before
 
 has-frame : (c : tie.After-mask-of) → readable wide (message (start c)) ≡ true
-has-frame c = let past = c.before in sym (answered past.before) ∙ not_false _ past.if1.false
+has-frame c = let past = c.before in sym (answered past.before) ∙ not-false _ past.if1.false
 
 panels : (c : tie.After-mask-of) → length (start c).args.entries.now ≡ 64
 panels c = search rules
@@ -58,7 +58,7 @@ readable-requires c κs = search rules
 returns : tie.Need-returns
 returns c =
     let s = start0 c.before in
-    written_unreadable wide (message s) s.args.buffer.now (sym (answered c.before) ∙ not_true _ c.if1.true)
+    written_unreadable wide (message s) s.args.buffer.now (sym (answered c.before) ∙ not-true _ c.if1.true)
 
 mask-of-requires : tie.Need-mask-of-requires
 mask-of-requires c κs = search rules

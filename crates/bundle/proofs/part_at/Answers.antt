@@ -16,7 +16,6 @@ use prog.Routine.{Routine}
 use prog.Wp.{Calls, Loops, WpFn, Tables}
 use types.Logic.{Logic, sem}
 use contract.Monad.{Fun, fact}
-use contract.Running.{tables, tables_of}
 use types.Kit.{‵, raw, ◌⊛◌, ⋆, some, later, given, ◌$◌, ◌∵◌, !, qed, by, move, drop, use1, use2, rewrite, split, join, pick, learn, fsplit, fjoin, suffices, frame, await, done}
 use types.Part.{whole, sub, look_in, agg}
 use types.Run.{look, init, forget, stop, fld, from, load, of_opd, and_then, no_more, assigns, land, returns, enter, alloc1, alloc0, params1, pass1, pass0, free1, free0}
@@ -35,7 +34,6 @@ use denote.Triple.Statement.{Contract, Triple}
 use denote.Triple.Call.{calls_at}
 use denote.Triple.Entry.{Vals, on_entry}
 use denote.Triple.Spec.{Meets, triple_of}
-use denote.Triple.Table.{entered, cited}
 use denote.Triple.Walked.{says, Stays, stay_none, stay_none_slice, walk_of, Goes-none, Goes-none_slice, Walks, ends_at, walked, walk_Meets}
 use denote.Exit.{yes}
 use denote.Triple.Clauses.{ensured, lasts}
@@ -49,10 +47,10 @@ use Rattle.bundle.specs.contracts.next as next
 use Rattle.bundle.proofs.next.Symbol as next-def
 use Rattle.bundle.proofs.next.Symbol.{name as #bundle·next}
 use Rattle.bundle.proofs.next.Met as next-thm
-use Rattle.bundle.specs.contracts.part_at.Key.{name as #bundle·part-at}
 use Rattle.bundle.specs.contracts.part_at as part_at
 use Rattle.bundle.proofs.part_at.Statement as stated
 use Rattle.bundle.proofs.part_at.Code as code
+use Rattle.bundle.proofs.part_at.Goals as goal
 
 abbrev stayed : Stays (part_at.ended).signature.params (part_at.ended).kept
 stayed = (stay_none_slice (0 ∷ []) tt (plain (λ _. u8)) yes, (stay_none (λ _. usize) yes, tt))
@@ -64,53 +62,39 @@ module _ {M : Type 1} {𝓤 : Ura M} (𝓛 : Logic 𝓤) (mem : Memory → SProp
 
 module _ {M : Type 1} {𝓤 : Ura M} (𝓛 : Logic 𝓤) (mem : Memory → SProp 𝓤) (run : Routine → Fun 𝓤) (κ : Lft) (q : Share) (s : Bor (List ℕ)) (place : ℕ) where
   open 𝓛 use {H}
-
   abbrev α : NamedLft
   α = named_lft 1 0 tt (κ, tt)
-
   -- the structs' types as a local of a body has them
   abbrev αᵉ : NamedLft
   αᵉ = record { mir = erased; lft = κ }
-
   -- the type of a slice, and its machine value
   abbrev R : RattleType
   R = ShrSlice (named 0) κ u8
-
   abbrev s_val : Bor (List ℕ) → Val
   s_val x = slice_val x.ref_ptr (length x.now)
-
   -- the reader that is made
   abbrev reader : Reader
   reader = record { bundle = s; place = place }
-
   abbrev at : Vals part_at.signature (κ, tt)
   at = (s_val s ∷ [], (vint w64 place ∷ [], tt))
-
   abbrev Post : Val → SProp 𝓤
   Post = (walk_of 𝓛 part_at.ended stayed (part_at.clauses 𝓛 mem run)).post (((κ, tt), (q, tt), tt, (s, (place, tt)), at), tt)
-
   abbrev Whole : Fml
   Whole = R.own s (s_val s ∷ [])
-
   abbrev PlaceOwn : Fml
   PlaceOwn = owns (usize ∷ []) (place, tt) (vint w64 place ∷ [], tt)
-
   -- the call of `next`: what it is passed, what it asks, and what is known of its result
   abbrev to-next : (Next 𝓛 mem run).Ghost
   to-next = (((κ, tt), (q, tt), tt, (reader, tt), (mach reader ∷ [], tt)), tt)
-
   goes-next : ent 𝓤 (⋆ 𝓛 ((‵ (flft κ q) ⊛ ‵ ftrue) ∷ ‵ (Own κ reader) ∷ [])) ((Next 𝓛 mem run).pre to-next)
   goes-next = qed 𝓛 ((‵ (flft κ q) ⊛ ‵ ftrue) ∷ ‵ (Own κ reader) ∷ []) ∵ nothing ! $ move ! (2 ∷ 0 ∷ []) $ fjoin ! $ move ! (1 ∷ 0 ∷ []) $ join ! $ frame ! $ done !
-
   next-said : (r : NextFrame) → ent 𝓤 (ensured 𝓛 next.ended (next.clauses 𝓛 mem run) (κ, tt) (reader, tt) tt r) (fact 𝓤 (Gives reader r))
   next-said r = ex_e 𝓤 _ (λ ws. snd∗ 𝓤 (sem 𝓛 (lasts next.ended (κ, tt) (reader, tt) ws)) (fact 𝓤 (Gives reader r)))
-
   exits : (p : Bor (List ℕ)) → FramePart s place p → ent 𝓤 (⋆ 𝓛 (‵ (R.own p (s_val p ∷ [])) ∷ (‵ (flft κ q) ⊛ ‵ ftrue) ∷ ‵ Whole ∷ ‵ PlaceOwn ∷ [])) (Post (s_val p))
   exits p e =
       qed 𝓛 (‵ (R.own p (s_val p ∷ [])) ∷ (‵ (flft κ q) ⊛ ‵ ftrue) ∷ ‵ Whole ∷ ‵ PlaceOwn ∷ []) ∵
       suffices ! _ (ends_at 𝓛 part_at.ended stayed (part_at.clauses 𝓛 mem run) (((κ, tt), (q, tt), tt, (s, (place, tt)), at), tt) (s_val p) p (tt, (tt, tt)) (tt, (tt, tt))) $ says ! e $
       move ! (1 ∷ []) $ frame ! $ move ! (1 ∷ 2 ∷ []) $ fjoin ! $ frame ! $ done !
-
   module _ (C : Calls 𝓤 H) (Λ : Loops 𝓤 H) (fm : FmC 𝓤 H 𝓛.laws C) (known : Triple 𝓤 (C #bundle·next) (Next 𝓛 mem run)) where
     walk : Is R s (s_val s ∷ []) → place < 2 ^ 64 → ent 𝓤 (on_entry 𝓛 part_at.signature (κ, tt) (q, tt) (s, (place, tt)) at) (WpFn 𝓤 H C Λ code.function (s_val s ∷ vint w64 place ∷ []) Post)
     walk s-is fits =
@@ -135,7 +119,6 @@ module _ {M : Type 1} {𝓤 : Ura M} (𝓛 : Logic 𝓤) (mem : Memory → SProp
 
 module _ {M : Type 1} {𝓤 : Ura M} (𝓛 : Logic 𝓤) (mem : Memory → SProp 𝓤) (run : Routine → Fun 𝓤) where
   open 𝓛 use {H}
-
   part-at-walks : (C : Calls 𝓤 H) (Λ : Loops 𝓤 H) → FmC 𝓤 H 𝓛.laws C → Triple 𝓤 (C #bundle·next) (Next 𝓛 mem run)
       → Walks 𝓛 part_at.ended stayed (WpFn 𝓤 H C Λ code.function) (part_at.clauses 𝓛 mem run)
   part-at-walks C Λ fm known = walked 𝓛 part_at.ended stayed (part_at.clauses 𝓛 mem run) (WpFn 𝓤 H C Λ code.function) (λ κs. (shr_slice_vals, (uint_vals w64, tt))) (λ κs. (shr_slice_Tells (named 0) κs.0 u8, (uint_Tells w64, tt)))
@@ -146,11 +129,3 @@ part-at-meets : {M : Type 1} {𝓤 : Ura M} (𝓛 : Logic 𝓤) (mem : Memory �
     → Meets 𝓛 part_at.signature (WpFn 𝓤 𝓛.H 𝓣.C 𝓣.Λ code.function) (part_at.spec 𝓛 mem run)
 part-at-meets {𝓤 = 𝓤} 𝓛 mem run 𝓣 known = walk_Meets 𝓛 part_at.ended stayed (Goes-none_slice 𝓛 1 (0 ∷ []) tt (plain (λ _. u8)) yes, (Goes-none 𝓛 1 (λ _. usize) yes (λ κs x f. refl), tt)) (part_at.clauses 𝓛 mem run) (WpFn 𝓤 𝓛.H 𝓣.C 𝓣.Λ code.function) (WpFn-mono 𝓤 𝓛.H 𝓛.laws 𝓣 code.function)
     (part-at-walks 𝓛 mem run 𝓣.C 𝓣.Λ (fm_of 𝓤 𝓛.H 𝓛.laws 𝓣) known)
-
-pub part_at_spec : {M : Type 1} → stated.statement M
-unfolding code.routine tables_of
-part_at_spec 𝓤 𝓛 𝓜 𝓡 =
-    entered 𝓤 𝓛.H (triple_of 𝓛 part_at.signature (part_at.spec 𝓛 𝓜.mem 𝓡.run))
-    (tables 𝓤 𝓛.H 𝓜 𝓡 code.env).C (tables 𝓤 𝓛.H 𝓜 𝓡 code.env).Λ #bundle·part-at code.function (code.unfolded 𝓤 𝓛.H 𝓜 𝓡)
-    (part-at-meets 𝓛 𝓜.mem 𝓡.run (tables_of 𝓤 𝓛.H 𝓜 (tables 𝓤 𝓛.H 𝓜 𝓡 code.env))
-    (cited 𝓤 𝓛.H (Next 𝓛 𝓜.mem 𝓡.run) 𝓜 𝓡 code.env #bundle·next next-def.routine code.calls-bundle::next (next-thm.met 𝓤 𝓛 𝓜 𝓡)))

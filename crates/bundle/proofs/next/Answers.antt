@@ -17,7 +17,6 @@ use prog.Routine.{Routine}
 use prog.Wp.{Calls, Loops, WpFn, Tables}
 use types.Logic.{Logic, sem}
 use contract.Monad.{Fun, fact}
-use contract.Running.{tables, tables_of}
 use types.Kit.{‵, raw, ◌⊛◌, ⋆, some, later, ◌$◌, ◌∵◌, !, qed, by, move, drop, use1, use2, rewrite, split, join, pick, fsplit, fjoin, suffices, frame, await, done}
 use types.Part.{whole, sub, look_in, agg}
 use types.Run.{look, init, forget, stop, fld, from, load, of_opd, and_then, no_more, assigns, land, returns, enter, alloc1, alloc0, params1, pass1, pass0, free1, free0}
@@ -36,7 +35,6 @@ use denote.Triple.Statement.{Contract, Triple}
 use denote.Triple.Call.{calls_at}
 use denote.Triple.Entry.{on_entry}
 use denote.Triple.Spec.{Meets, triple_of}
-use denote.Triple.Table.{entered, cited}
 use denote.Triple.Walked.{says, Stays, stay_none, walk_of, Goes-none, Walks, ends_at, walked, walk_Meets}
 use denote.Exit.{yes}
 use denote.Triple.Clauses.{ensured, lasts}
@@ -60,10 +58,10 @@ use Rattle.bundle.specs.contracts.cut as cut
 use Rattle.bundle.proofs.cut.Symbol as cut-def
 use Rattle.bundle.proofs.cut.Symbol.{name as #bundle·cut}
 use Rattle.bundle.proofs.cut.Met as cut-thm
-use Rattle.bundle.specs.contracts.next.Key.{name as #bundle·next}
 use Rattle.bundle.specs.contracts.next as thin
 use Rattle.bundle.proofs.next.Statement as stated
 use Rattle.bundle.proofs.next.Code as code
+use Rattle.bundle.proofs.next.Goals as goal
 
 abbrev stayed : Stays (thin.ended).signature.params (thin.ended).kept
 stayed = (stay_none B yes, tt)
@@ -72,62 +70,47 @@ module _ {M : Type 1} {𝓤 : Ura M} (𝓛 : Logic 𝓤) (mem : Memory → SProp
   -- the contracts that the proof cites
   abbrev StepOf : Contract 𝓤
   StepOf = triple_of 𝓛 step.signature (step.spec 𝓛 mem run)
-
   abbrev Cut : Contract 𝓤
   Cut = triple_of 𝓛 cut.signature (cut.spec 𝓛 mem run)
 
 module _ {M : Type 1} {𝓤 : Ura M} (𝓛 : Logic 𝓤) (mem : Memory → SProp 𝓤) (run : Routine → Fun 𝓤) (κ : Lft) (q : Share) (d : Reader) where
   -- the part's type
   open 𝓛 use {H}
-
   abbrev R : RattleType
   R = ShrSlice (named 0) κ u8
-
   abbrev part_val : Bor (List ℕ) → Val
   part_val p = slice_val p.ref_ptr (length p.now)
-
   abbrev Post : Val → SProp 𝓤
   Post = (walk_of 𝓛 thin.ended stayed (thin.clauses 𝓛 mem run)).post (((κ, tt), (q, tt), tt, (d, tt), ((mach d) ∷ [], tt)), tt)
-
   -- the call of `panel_bundle_step`: what it is passed, what it asks, and what is known of its result
   abbrev to_step : (StepOf 𝓛 mem run).Ghost
   to_step = (((κ, tt), (q, tt), tt, (d.bundle, (d.place, tt)), (bundle_val d ∷ [], (vint w64 d.place ∷ [], tt))), tt)
-
   goes_step : d.place < 2 ^ 64 → ent 𝓤 (⋆ 𝓛 ((‵ (flft κ q) ⊛ ‵ ftrue) ∷ ‵ (BundleOwn κ d) ∷ [])) ((StepOf 𝓛 mem run).pre to_step)
   goes_step place-fits =
       qed 𝓛 ((‵ (flft κ q) ⊛ ‵ ftrue) ∷ ‵ (BundleOwn κ d) ∷ []) ∵ nothing ! $ owned ! usize (Is usize) (uint_Makes 𝓛 w64) d.place _ (refl, place-fits) $ fjoin ! $
       move ! (2 ∷ 0 ∷ []) $ fjoin ! $ move ! (1 ∷ 0 ∷ []) $ join ! $ frame ! $ done !
-
   abbrev Stepped : BundleStep → Type 0
   Stepped a = a ≡ answer_of (step_at d.bundle.now d.place) d.place
-
   step-said : (a : BundleStep) → ent 𝓤 (ensured 𝓛 step.ended (step.clauses 𝓛 mem run) (κ, tt) (d.bundle, (d.place, tt)) tt a) (fact 𝓤 (Stepped a))
   step-said a = ex_e 𝓤 _ (λ ws. snd∗ 𝓤 (sem 𝓛 (lasts step.ended (κ, tt) (d.bundle, (d.place, tt)) ws)) (fact 𝓤 (Stepped a)))
-
   fits : (a : BundleStep) (u : Val) → Is S.the_row a (u ∷ []) → (a.start < 2 ^ 64) × (a.length < 2 ^ 64) × (a.next < 2 ^ 64) × (a.kind < 2 ^ 8)
   fits a u is = let fields = LL.owed S.the_type S'.the_laws a (u ∷ []) is in (fields.0.1, fields.1.0.1, fields.1.1.0.1, fields.1.1.1.0.1)
-
   -- the call of `cut`, at the step
   module _ (a : BundleStep) (is : Stepped a) where
     abbrev to-cut : (Cut 𝓛 mem run).Ghost
     to-cut = (((κ, tt), (q, tt), tt, (d.bundle, (a.start, (a.length, tt))), (bundle_val d ∷ [], (vint w64 a.start ∷ [], (vint w64 a.length ∷ [], tt)))), tt)
-
     goes-cut : a.start < 2 ^ 64 → a.length < 2 ^ 64 → ent 𝓤 (⋆ 𝓛 ((‵ (flft κ q) ⊛ ‵ ftrue) ∷ ‵ (BundleOwn κ d) ∷ [])) ((Cut 𝓛 mem run).pre to-cut)
     goes-cut start_fits length-fits =
         qed 𝓛 ((‵ (flft κ q) ⊛ ‵ ftrue) ∷ ‵ (BundleOwn κ d) ∷ []) ∵ says ! (part_within d a is) $ frame ! $
         nothing ! $ owned ! usize (Is usize) (uint_Makes 𝓛 w64) a.length _ (refl, length-fits) $ fjoin ! $ owned ! usize (Is usize) (uint_Makes 𝓛 w64) a.start _ (refl, start_fits) $ fjoin ! $
         move ! (1 ∷ 0 ∷ []) $ fjoin ! $ done !
-
     abbrev CutOut : Bor (List ℕ) → Type 0
     CutOut p = Part d.bundle a.start (take a.length (without a.start d.bundle.now)) p
-
     cut-said : (p : Bor (List ℕ)) → ent 𝓤 (ensured 𝓛 cut.ended (cut.clauses 𝓛 mem run) (κ, tt) (d.bundle, (a.start, (a.length, tt))) tt p) (fact 𝓤 (CutOut p))
     cut-said p = ex_e 𝓤 _ (λ ws. snd∗ 𝓤 (sem 𝓛 (lasts cut.ended (κ, tt) (d.bundle, (a.start, (a.length, tt))) ws)) (fact 𝓤 (CutOut p)))
-
     -- the struct that is made
     abbrev made : Bor (List ℕ) → NextFrame
     made p = record { kind = a.kind; part = p; place = a.next }
-
     exits : (p : Bor (List ℕ)) → CutOut p → a.kind < 2 ^ 8 → a.next < 2 ^ 64
         → ent 𝓤 (⋆ 𝓛 (‵ (R.own p (part_val p ∷ [])) ∷ (‵ (flft κ q) ⊛ ‵ ftrue) ∷ ‵ (Own κ d) ∷ [])) (Post (N'.lowered (made p)))
     exits p at kind_fits next_fits =
@@ -137,7 +120,6 @@ module _ {M : Type 1} {𝓤 : Ura M} (𝓛 : Logic 𝓤) (mem : Memory → SProp
         -- [what the part owns]: with the facts of kind and place it is what the struct owns
         nothing ! $ owned ! usize (Is usize) (uint_Makes 𝓛 w64) a.next _ (refl, next_fits) $ fjoin ! $ move ! (1 ∷ 0 ∷ []) $ fjoin ! $
         owned ! u8 (Is u8) (uint_Makes 𝓛 w8) a.kind _ (refl, kind_fits) $ fjoin ! $ by ! (own_shut 𝓛 (N.the_type (named_lft 1 0 tt (κ, tt))) (N'.the_laws (named_lft 1 0 tt (κ, tt))) (a.kind, (p, (a.next, tt))))
-
   module _ (C : Calls 𝓤 H) (Λ : Loops 𝓤 H) (fm : FmC 𝓤 H 𝓛.laws C) (Known-step : Triple 𝓤 (C #bundle·panel-bundle-step) (StepOf 𝓛 mem run)) (known-cut : Triple 𝓤 (C #bundle·cut) (Cut 𝓛 mem run)) where
     walk : Holds (has_ty (T'.mir (named 0)) (mach d)) × WT (mach d) → ent 𝓤 (on_entry 𝓛 thin.signature (κ, tt) (q, tt) (d, tt) ((mach d) ∷ [], tt)) (WpFn 𝓤 H C Λ code.function ((mach d) ∷ []) Post)
     walk wt =
@@ -168,7 +150,6 @@ module _ {M : Type 1} {𝓤 : Ura M} (𝓛 : Logic 𝓤) (mem : Memory → SProp
 
 module _ {M : Type 1} {𝓤 : Ura M} (𝓛 : Logic 𝓤) (mem : Memory → SProp 𝓤) (run : Routine → Fun 𝓤) where
   open 𝓛 use {H}
-
   next-walks : (C : Calls 𝓤 H) (Λ : Loops 𝓤 H) → FmC 𝓤 H 𝓛.laws C → Triple 𝓤 (C #bundle·panel-bundle-step) (StepOf 𝓛 mem run) → Triple 𝓤 (C #bundle·cut) (Cut 𝓛 mem run)
       → Walks 𝓛 thin.ended stayed (WpFn 𝓤 H C Λ code.function) (thin.clauses 𝓛 mem run)
   next-walks C Λ fm Known-step known-cut = walked 𝓛 thin.ended stayed (thin.clauses 𝓛 mem run) (WpFn 𝓤 H C Λ code.function) (λ κs. (LL.vals (T.the_type (named_lft 1 0 tt κs)) (T'.the_laws (named_lft 1 0 tt κs)), tt)) (λ κs. (LL.tells (T.the_type (named_lft 1 0 tt κs)) (T'.the_laws (named_lft 1 0 tt κs)), tt))
@@ -179,12 +160,3 @@ next-meets : {M : Type 1} {𝓤 : Ura M} (𝓛 : Logic 𝓤) (mem : Memory → S
     → Meets 𝓛 thin.signature (WpFn 𝓤 𝓛.H 𝓣.C 𝓣.Λ code.function) (thin.spec 𝓛 mem run)
 next-meets {𝓤 = 𝓤} 𝓛 mem run 𝓣 Known-step known-cut = walk_Meets 𝓛 thin.ended stayed (Goes-none 𝓛 1 B yes (λ κs x f. refl), tt) (thin.clauses 𝓛 mem run) (WpFn 𝓤 𝓛.H 𝓣.C 𝓣.Λ code.function) (WpFn-mono 𝓤 𝓛.H 𝓛.laws 𝓣 code.function)
     (next-walks 𝓛 mem run 𝓣.C 𝓣.Λ (fm_of 𝓤 𝓛.H 𝓛.laws 𝓣) Known-step known-cut)
-
-pub next_spec : {M : Type 1} → stated.statement M
-unfolding code.routine tables_of
-next_spec 𝓤 𝓛 𝓜 𝓡 =
-    entered 𝓤 𝓛.H (triple_of 𝓛 thin.signature (thin.spec 𝓛 𝓜.mem 𝓡.run))
-    (tables 𝓤 𝓛.H 𝓜 𝓡 code.env).C (tables 𝓤 𝓛.H 𝓜 𝓡 code.env).Λ #bundle·next code.function (code.unfolded 𝓤 𝓛.H 𝓜 𝓡)
-    (next-meets 𝓛 𝓜.mem 𝓡.run (tables_of 𝓤 𝓛.H 𝓜 (tables 𝓤 𝓛.H 𝓜 𝓡 code.env))
-    (cited 𝓤 𝓛.H (StepOf 𝓛 𝓜.mem 𝓡.run) 𝓜 𝓡 code.env #bundle·panel-bundle-step step-def.routine code.calls-bundle::panel_bundle_step (step_thm.met 𝓤 𝓛 𝓜 𝓡))
-    (cited 𝓤 𝓛.H (Cut 𝓛 𝓜.mem 𝓡.run) 𝓜 𝓡 code.env #bundle·cut cut-def.routine code.calls-bundle::cut (cut-thm.met 𝓤 𝓛 𝓜 𝓡)))

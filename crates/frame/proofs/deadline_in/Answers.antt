@@ -1,18 +1,16 @@
 -- `frame::deadline_in` meets its contract: the high four of eight bytes are the first four. Assumes nothing.
-use mathlib.Core.Path.{◌≡◌, sym, ap, ◌∙◌}
+use mathlib.Core.Path.{◌≡◌, ap, ◌∙◌}
 use mathlib.Core.Logic.{by_cases}
 use mathlib.Core.List.{List}
-use Prim.Native.Nat.{ℕ, ◌+◌, ◌-◌, ◌*◌, ◌/◌, ◌^◌, ◌≤◌}
+use Prim.Native.Nat.{ℕ, ◌-◌, ◌*◌, ◌/◌, ◌^◌, ◌≤◌}
 use native.Mathlib.Decide.{ℕ_discrete}
 use native.Mathlib.Nat.{div-one}
 use native.Mathlib.Omega.{arith}
-use borrow.Author.Rules.{rules}
 use lib.ListN.{length}
 use Rattle.numbers.specs.Numbers.{Bytes, number_at}
 use Rattle.numbers.proofs.NumberAt.{number_at_add, number_at_lt}
 use Rattle.frame.specs.Frame.{narrow, wide, Width}
-use Rattle.frame.proofs.deadline_in.Statement.{statement}
-use Rattle.frame.proofs.deadline_in.Tie as tie
+use Rattle.frame.proofs.deadline_in.Goals as goal
 
 module _ (bs : List ℕ) (b : Bytes bs) (room : 14 ≤ length bs) where
   high_half : number_at bs 6 8 / 4294967296 ≡ number_at bs 6 4
@@ -23,24 +21,9 @@ module _ (bs : List ℕ) (b : Bytes bs) (room : 14 ≤ length bs) where
       by_cases (ℕ_discrete width narrow) (λ (e : width ≡ narrow). rw e high_half)
       (λ other. let e : width ≡ wide = omega (arith, other) in rw e (div-one (number_at bs 6 8)))
 
-number-at-requires : tie.Need-number-at-requires
-number-at-requires c κs = search rules
-
-mul-result : tie.Need-overflow-mul-result
-mul-result c = search rules
-
-sub-result : tie.Need-overflow-sub-result
-sub-result c = search rules
-
-shr-result : tie.Need-overflow-shr-result
-shr-result c = search rules
-
-returns : tie.Need-returns
+pub returns : goal.returns
 returns c =
-    let s = c.before.before in
+    let s = c in
     let bs = s.args.frame.now in
-    ap (λ (n : ℕ). n / 2 ^ (64 - 8 * s.args.width)) c.number-at.ensures.0
-    ∙ shifted bs (λ i. omega (arith, c.before.shared-slice-known.given i)) s.requires.1 s.args.width s.requires.0
-
-pub deadline_in_spec : {M : Type 1} → statement M
-deadline_in_spec = tie.close (tie.spec number-at-requires mul-result sub-result shr-result returns)
+    ap (λ (n : ℕ). n / 2 ^ (64 - 8 * s.args.width)) c.number_at.ensures.0
+    ∙ shifted bs (λ i. omega (arith, c.shared_slice_known-1.given i)) s.requires.1 s.args.width s.requires.0

@@ -16,7 +16,6 @@ use prog.Routine.{Routine}
 use prog.Wp.{Calls, Loops, WpFn, Tables}
 use types.Logic.{Logic}
 use contract.Monad.{Fun}
-use contract.Running.{tables, tables_of}
 use types.Kit.{‵, raw, ◌⊛◌, ◌$◌, ◌∵◌, !, qed, by, move, use1, split, fsplit, fjoin, suffices, frame}
 use types.Part.{agg}
 use types.Run.{look, init, forget, stop, from, load, lit, and_then, no_more, assigns, returns, enter, alloc1, alloc0, params1, pass1, pass0, free1, free0}
@@ -28,17 +27,16 @@ use denote.Ref.{Bor}
 use denote.Signature.{plain}
 use denote.Slice.{slice_val, ShrSlice, shr_slice_vals, shr_slice_Tells, shr_slice_Lawful, shr_slice_copy}
 use denote.Triple.Entry.{on_entry}
-use denote.Triple.Spec.{Meets, triple_of}
-use denote.Triple.Table.{entered}
+use denote.Triple.Spec.{Meets}
 use denote.Triple.Walked.{says, Stays, stay_none_slice, walk_of, Goes-none_slice, Walks, ends_at, walked, walk_Meets}
 use denote.Exit.{yes}
 use Rattle.bundle.specs.declared.Reader.{Reader}
 use Rattle.bundle.proofs.Apart.{together}
 use Rattle.bundle.proofs.Reader.TheLaws as T'
-use Rattle.bundle.specs.contracts.new.Key.{name as #bundle·new}
 use Rattle.bundle.specs.contracts.new as new
 use Rattle.bundle.proofs.new.Statement as stated
 use Rattle.bundle.proofs.new.Code as code
+use Rattle.bundle.proofs.new.Goals as goal
 
 abbrev stayed : Stays (new.ended).signature.params (new.ended).kept
 stayed = (stay_none_slice (0 ∷ []) tt (plain (λ _. u8)) yes, tt)
@@ -46,22 +44,16 @@ stayed = (stay_none_slice (0 ∷ []) tt (plain (λ _. u8)) yes, tt)
 module _ {M : Type 1} {𝓤 : Ura M} (𝓛 : Logic 𝓤) (mem : Memory → SProp 𝓤) (run : Routine → Fun 𝓤) (κ : Lft) (q : Share) (s : Bor (List ℕ)) where
   -- the machine value of the bundle
   open 𝓛 use {H}
-
   abbrev v : Val
   v = slice_val s.ref_ptr (length s.now)
-
   abbrev made : Reader
   made = record { bundle = s; place = 0 }
-
   abbrev at : List Val × Unit {0}
   at = (v ∷ [], tt)
-
   abbrev Post : Val → SProp 𝓤
   Post = (walk_of 𝓛 new.ended stayed (new.clauses 𝓛 mem run)).post (((κ, tt), (q, tt), tt, (s, tt), at), tt)
-
   abbrev Own : Fml
   Own = (ShrSlice (named 0) κ u8).own_val s (v ∷ [])
-
   exits : ent 𝓤 (on_entry 𝓛 new.signature (κ, tt) (q, tt) (s, tt) at) (Post (T'.lowered made))
   exits =
       qed 𝓛 ((‵ (flft κ q) ⊛ ‵ ftrue) ∷ ‵ (owns (ShrSlice (named 0) κ u8 ∷ []) (s, tt) at) ∷ []) ∵
@@ -69,7 +61,6 @@ module _ {M : Type 1} {𝓤 : Ura M} (𝓛 : Logic 𝓤) (mem : Memory → SProp
       frame ! $ fsplit ! $ use1 𝓛 (‵ Own ⊛ ‵ Own) ((shr_slice_copy 𝓛 (named 0) κ u8).twice s (v ∷ [])) $ split ! $ move ! (0 ∷ 2 ∷ []) $ fjoin ! $ frame ! $
       -- [what the bundle owns]
       by ! (together 𝓛 κ made (lit< tt))
-
   module _ (C : Calls 𝓤 H) (Λ : Loops 𝓤 H) where
     walk : Is (ShrSlice (named 0) κ u8) s (v ∷ []) → ent 𝓤 (on_entry 𝓛 new.signature (κ, tt) (q, tt) (s, tt) at) (WpFn 𝓤 H C Λ code.function (v ∷ []) Post)
     walk p =
@@ -80,7 +71,6 @@ module _ {M : Type 1} {𝓤 : Ura M} (𝓛 : Logic 𝓤) (mem : Memory → SProp
 
 module _ {M : Type 1} {𝓤 : Ura M} (𝓛 : Logic 𝓤) (mem : Memory → SProp 𝓤) (run : Routine → Fun 𝓤) where
   open 𝓛 use {H}
-
   new_walks : (C : Calls 𝓤 H) (Λ : Loops 𝓤 H) → Walks 𝓛 new.ended stayed (WpFn 𝓤 H C Λ code.function) (new.clauses 𝓛 mem run)
   new_walks C Λ = walked 𝓛 new.ended stayed (new.clauses 𝓛 mem run) (WpFn 𝓤 H C Λ code.function) (λ κs. (shr_slice_vals, tt)) (λ κs. (shr_slice_Tells (named 0) κs.0 u8, tt))
       (λ κs qs bounds a g are. via 𝓤 _ (fst∗ 𝓤 _ (emp 𝓤)) (walk 𝓛 mem run κs.0 qs.0 a.0 C Λ are.0))
@@ -88,10 +78,3 @@ module _ {M : Type 1} {𝓤 : Ura M} (𝓛 : Logic 𝓤) (mem : Memory → SProp
 new_meets : {M : Type 1} {𝓤 : Ura M} (𝓛 : Logic 𝓤) → (mem : Memory → SProp 𝓤) (run : Routine → Fun 𝓤) (𝓣 : Tables 𝓤 𝓛.H)
     → Meets 𝓛 new.signature (WpFn 𝓤 𝓛.H 𝓣.C 𝓣.Λ code.function) (new.spec 𝓛 mem run)
 new_meets {𝓤 = 𝓤} 𝓛 mem run 𝓣 = walk_Meets 𝓛 new.ended stayed (Goes-none_slice 𝓛 1 (0 ∷ []) tt (plain (λ _. u8)) yes, tt) (new.clauses 𝓛 mem run) (WpFn 𝓤 𝓛.H 𝓣.C 𝓣.Λ code.function) (WpFn-mono 𝓤 𝓛.H 𝓛.laws 𝓣 code.function) (new_walks 𝓛 mem run 𝓣.C 𝓣.Λ)
-
-pub new_spec : {M : Type 1} → stated.statement M
-unfolding code.routine tables_of
-new_spec 𝓤 𝓛 𝓜 𝓡 =
-    entered 𝓤 𝓛.H (triple_of 𝓛 new.signature (new.spec 𝓛 𝓜.mem 𝓡.run))
-    (tables 𝓤 𝓛.H 𝓜 𝓡 code.env).C (tables 𝓤 𝓛.H 𝓜 𝓡 code.env).Λ #bundle·new code.function (code.unfolded 𝓤 𝓛.H 𝓜 𝓡)
-    (new_meets 𝓛 𝓜.mem 𝓡.run (tables_of 𝓤 𝓛.H 𝓜 (tables 𝓤 𝓛.H 𝓜 𝓡 code.env)))

@@ -38,6 +38,7 @@ same_name_refl x = simp (eq-eqb x.source x.source refl, eq-eqb x.deadline x.dead
 
 entries_sent-one : (ss : List Sent) (s : Sent) → s is_in ss → ((t : Sent) → t is_in ss → name t ≡ name s → t ≡ s) → entries_sent ss (name s) ≡ (carried s).entries
 unfolding entries_sent
+entries_sent-one [] s i one = elim i [ ]
 entries_sent-one (t ∷ ss) s i one =
     cond_both (λ (l : List ℕ). l ≡ (carried s).entries) (same_name (name t) (name s))
     (λ e. ap (λ (u : Sent). (carried u).entries) (one t (first refl) (same_name_true (name t) (name s) e)))
@@ -65,6 +66,7 @@ mark_in-le (n ∷ log) k above each =
 
 pub mark_in_ge : (log : List Name) (x : Name) → x is_in log → x.deadline ≤ mark_in log x.source
 unfolding mark_in
+mark_in_ge [] x i = elim i [ ]
 mark_in_ge (n ∷ log) x (first e) =
     rw e (rw (eq-eqb n.source n.source refl) (omega arith))
 mark_in_ge (n ∷ log) x (later i) = omega (arith, mark_in_ge log x i)
@@ -131,6 +133,7 @@ is_one_of-true n (x ∷ names) e =
 pub is_in_not_dropped : (log : List Name) (time floor : ℕ) (taken : List Name) (n : Name) → n is_in not_dropped log time floor taken
     → (n is_in taken) × ((n is_in log) ⊎ (has_lapsed time floor n.deadline ≡ false))
 unfolding not_dropped
+is_in_not_dropped log time floor [] n i = elim i [ ]
 is_in_not_dropped log time floor (x ∷ taken) n i =
     go (is_in_not_dropped log time floor taken n) (is_one_of x log || not (has_lapsed time floor x.deadline)) refl i
   where

@@ -79,6 +79,7 @@ ahead_end x y n (z ∷ log) (inl h) = ⊎_elim (λ a. inl (inl (h.0, a))) (λ b.
 ahead_end x y n (z ∷ log) (inr h) = ⊎_elim (λ a. inl (inr a)) (λ b. inr (later b.0, b.1)) (ahead_end x y n log h)
 
 pub ahead_is_in : (x y : Name) (log : List Name) → Ahead x y log → x is_in log
+ahead_is_in x y [] i = elim i [ ]
 ahead_is_in x y (z ∷ log) (inl h) = first h.0
 ahead_is_in x y (z ∷ log) (inr h) = later (ahead_is_in x y log h)
 

@@ -1,5 +1,5 @@
 -- Laws of the waiting list: one leaves it, one enters it, the lapsed are dropped. Assumes nothing.
-use Prim.Native.Nat.{ℕ, zero, suc, ◌+◌, ◌≤◌, ◌<◌}
+use Prim.Native.Nat.{ℕ, zero, suc, ◌≤◌, ◌<◌}
 use native.Mathlib.Nat.{not-suc-le-zero}
 use native.Mathlib.Omega.{arith}
 use mathlib.Core.Path.{◌≡◌, refl, sym, ap, ◌∙◌}
@@ -38,6 +38,8 @@ get_or_is_in (suc place) (m ∷ ms) other lt = later (get_or_is_in place ms othe
 
 pub without_is_in : (place : ℕ) (ms : List Message) (other w : Message) → w is_in ms → (w ≡ get_or ms place other) ⊎ (w is_in without place ms)
 unfolding without
+without_is_in zero [] other w i = elim i [ ]
+without_is_in (suc place) [] other w i = elim i [ ]
 without_is_in zero (m ∷ ms) other w (first e) = inl e
 without_is_in zero (m ∷ ms) other w (later i) = inr i
 without_is_in (suc place) (m ∷ ms) other w (first e) = inr (first e)
@@ -84,6 +86,7 @@ Distinct_end (x ∷ ms) m d new = (
 
 pub is_waiting-false : (m : Message) (ws : List Message) → is_waiting m ws ≡ false → (w : Message) → w is_in ws → name_of w ≢ name_of m
 unfolding is_waiting
+is_waiting-false m [] e w i same = elim i [ ]
 is_waiting-false m (x ∷ ws) e w (first q) same =
     ⊎_elim (λ f. eqb-false m.source x.source f (ap (λ (n : Name). n.source) (sym same ∙ ap name_of q)))
     (λ f. eqb-false m.deadline x.deadline f (ap (λ (n : Name). n.deadline) (sym same ∙ ap name_of q)))
@@ -119,6 +122,7 @@ is_in_alive p (m ∷ ms) w i =
     here r le (later k) = below r k
 
 pub alive_is_in : (p : Panel) (ms : List Message) (w : Message) → w is_in ms → (w is_in alive p ms) ⊎ (w.deadline < limit p)
+alive_is_in p [] w i = elim i [ ]
 alive_is_in p (m ∷ ms) w (first e) = alive_case p m ms (λ l. (w is_in l) ⊎ (w.deadline < limit p)) (λ lt. inr (rw e lt)) (λ _. inl (first e))
 alive_is_in p (m ∷ ms) w (later i) =
     alive_case p m ms (λ l. (w is_in l) ⊎ (w.deadline < limit p)) (λ _. alive_is_in p ms w i)

@@ -1,5 +1,5 @@
 -- What the floor means, when it decides nothing, and what set-back calls do. Assumes nothing.
-use Prim.Native.Nat.{ℕ, ◌+◌, min, ◌≤◌}
+use Prim.Native.Nat.{ℕ, min, ◌≤◌}
 use native.Mathlib.Decide.{ℕ_discrete}
 use native.Mathlib.Omega.{arith}
 use mathlib.Core.Path.{◌≡◌, refl, sym, ◌∙◌, subst, subst⁻¹}
@@ -11,7 +11,6 @@ use borrow.Author.Tests.{eqb-true, eq-eqb}
 use Rattle.frame.specs.Refusal.{first_of}
 use Rattle.frame.specs.Reading.{message_from}
 use Rattle.frame.proofs.Conjunction.{and_both}
-use Rattle.rules.specs.Sizes.{width}
 use Rattle.rules.specs.Panel.{Name, Panel, ready}
 use Rattle.rules.specs.Handing.{hand}
 use Rattle.rules.specs.Settling.{Settled, with_waiting, settle}

@@ -1,5 +1,5 @@
 -- A call at two records that differ in their floors alone, where both decide nothing: the same answer and the same bytes. Assumes nothing.
-use Prim.Native.Nat.{ℕ, zero, suc, ◌+◌, ◌≤◌}
+use Prim.Native.Nat.{ℕ, zero, suc, ◌≤◌}
 use native.Mathlib.Omega.{arith}
 use mathlib.Core.Path.{◌≡◌, refl, sym, ap, ◌∙◌, subst⁻¹}
 use mathlib.Core.Bool.{Bool, true, false, cond, true≢false}
@@ -9,7 +9,6 @@ use Rattle.numbers.specs.Buffer.{over}
 use Rattle.frame.specs.Message.{Message}
 use Rattle.frame.specs.Refusal.{first_of}
 use Rattle.frame.specs.Reading.{message_from}
-use Rattle.rules.specs.Sizes.{width}
 use Rattle.rules.specs.Panel.{Panel, ready}
 use Rattle.rules.specs.Handing.{log_records}
 use Rattle.rules.specs.Settling.{with_waiting, hand_then, settle}

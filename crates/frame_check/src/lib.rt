@@ -15,6 +15,7 @@ use numbers::number_at;
 use std::num::wrapping_sub_u64;
 
 // The first six checks: length, mark, version, the length of that version, source, deadline.
+#[tactic(auto, using(numbers::proofs::NumberAt::number_at_one), unfolding(frame::specs::Reading::checks, frame::specs::Reading::mark_in, frame::specs::Refusal::first_of))]
 fn head_check(frame: &[u8], width: usize) -> u8
     requires { Width width }
     ensures { result ≡ first_of (take 6 (checks width frame.now)) }
@@ -60,6 +61,7 @@ fn each_earlier(frame: &[u8], width: usize, count: usize, deadline: u64) -> bool
 }
 
 // 0, or the refusal number of the reading in the version of that width.
+#[tactic(auto, using(numbers::proofs::NumberAt::number_at_one), unfolding(frame::specs::Reading::checks, frame::specs::Refusal::first_of))]
 fn check(frame: &[u8], width: usize) -> u8
     requires { Width width }
     ensures { result ≡ refusal width frame.now }

@@ -1,0 +1,10 @@
+-- `slots::mask` meets its contract. Assumes nothing.
+use native.Mathlib.Omega.{arith}
+use Rattle.frame.proofs.Passed.{zero_passed}
+use Rattle.slots.proofs.mask.Goals as goal
+
+pub number_at-requires : goal.number_at-requires
+number_at-requires c = (omega arith, omega (arith, (zero_passed _ _ c.requires).room))
+
+pub returns : goal.returns
+returns c = c.number_at.ensures.0

@@ -25,7 +25,7 @@ pub struct Tested {
 }
 
 // The message that goes first among those looked at, if one of them is ready.
-#[derive(Drop)]
+#[derive(Clone, Copy)]
 pub struct First {
     pub found: bool,
     pub place: usize,

@@ -1,0 +1,9 @@
+use Prim.Native.Nat.{◌-◌}
+use Rattle.choosing.proofs.ready.Proof.Turns.{MetBelow}
+use Rattle.choosing.proofs.ready.Given as goal
+
+abbrev pub invariant-loop-bits : goal.invariant-loop-bits
+invariant-loop-bits l = MetBelow l.frame l.marks l.time l.floor l.bits l.visited
+
+abbrev pub decreases-loop-bits : goal.decreases-loop-bits
+decreases-loop-bits l = l.bits

@@ -2,3 +2,4 @@
 pub mod ChoiceUpwards
 pub mod Choosing
 pub mod Holding
+mod Turns

@@ -1,12 +1,12 @@
 -- `choosing::choice` meets its contract: what is found so far is the choice among the messages before the place. Assumes nothing.
 use mathlib.Core.Path.{◌≡◌, sym, ◌∙◌}
-use Prim.Native.Nat.{◌-◌, ◌≤◌}
+use Prim.Native.Nat.{◌≤◌}
 use native.Mathlib.Numerals.{add-one}
 use native.Mathlib.Omega.{arith}
 use lib.ListN.{length, take}
 use Rattle.slots.specs.Slots.{held}
 use Rattle.choosing.specs.Choice.{asking}
-use Rattle.choosing.proofs.Choosing.{first_below, first_below-none, first_below_all}
+use Rattle.choosing.proofs.Choosing.{first_below-none, first_below_all}
 use Rattle.choosing.proofs.Holding.{length_listed, first_below_listed}
 use Rattle.choosing.proofs.choice.Goals as goal
 

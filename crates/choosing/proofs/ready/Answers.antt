@@ -10,10 +10,8 @@ use Rattle.numbers.specs.Numbers.{number_at}
 use Rattle.rules.specs.Sizes.{width}
 use Rattle.slots.proofs.SetBits.{next}
 use Rattle.slots.proofs.Walk.{turn_lt, turn_room}
-use Rattle.choosing.proofs.ready.Proof.Turns.{MetBelow, met_by, met_start, end_ready, end_visits, stop_ready, stop_visits, turn_on}
+use Rattle.choosing.proofs.Turns.{MetBelow, met_by, met_start, end_ready, end_visits, stop_ready, stop_visits, turn_on}
 use Rattle.choosing.proofs.ready.Goals as goal
-
-mod Turns
 
 pub loop-bits-init : goal.loop-bits-init
 loop-bits-init c =
@@ -73,10 +71,11 @@ tested c = rw (← c.number_at-entry.ensures.0) (sym c.is_met.ensures)
 pub returns-then-not-is_met : goal.returns-then-not-is_met
 returns-then-not-is_met c =
     let turn = c in
-    let unmet = tested c ∙ c.if-not-is_met.true in (
-      sym (stop_ready _ _ _ _ _ _ turn.loop-bits.invariant turn.loop-bits-test.true unmet),
-      stop_visits _ _ _ _ _ _ turn.loop-bits.invariant turn.loop-bits-test.true turn.requires.0 unmet,
-    )
+    let unmet = tested c ∙ c.if-not-is_met.true in
+    record {
+      ready_value = sym (stop_ready _ _ _ _ _ _ turn.loop-bits.invariant turn.loop-bits-test.true unmet);
+      visited_value = stop_visits _ _ _ _ _ _ turn.loop-bits.invariant turn.loop-bits-test.true turn.requires.0 unmet;
+    }
 
 pub overflow_sub-bits : goal.overflow_sub-bits
 overflow_sub-bits c = omega (arith, c.loop-bits-test.true)
@@ -99,7 +98,8 @@ loop-bits-preserved c =
     turn_on _ _ _ _ _ _ turn.loop-bits.invariant turn.loop-bits-test.true (tested_2 c ∙ c.if-not-is_met.false)
 
 pub returns : goal.returns
-returns c = (
-  sym (end_ready _ _ _ _ _ _ c.loop-bits.invariant c.loop-bits-test.false),
-  end_visits _ _ _ _ _ _ c.loop-bits.invariant c.loop-bits-test.false c.requires.0,
-)
+returns c =
+    record {
+      ready_value = sym (end_ready _ _ _ _ _ _ c.loop-bits.invariant c.loop-bits-test.false);
+      visited_value = end_visits _ _ _ _ _ _ c.loop-bits.invariant c.loop-bits-test.false c.requires.0;
+    }

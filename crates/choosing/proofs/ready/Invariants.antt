@@ -1,5 +1,4 @@
-use Prim.Native.Nat.{◌-◌}
-use Rattle.choosing.proofs.ready.Proof.Turns.{MetBelow}
+use Rattle.choosing.proofs.Turns.{MetBelow}
 use Rattle.choosing.proofs.ready.Given as goal
 
 abbrev pub invariant-loop-bits : goal.invariant-loop-bits

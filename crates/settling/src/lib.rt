@@ -15,7 +15,7 @@ use slots::kept_frame;
 // The record while it settles, but for what is lent: how many messages still wait, in the slots that
 // the first of the places list, and how many log records have been written.
 #[repr(C)]
-#[derive(Drop)]
+#[derive(Clone, Copy)]
 pub struct Settling {
     pub own: u8,
     pub time: u64,
@@ -57,7 +57,7 @@ pub fn settle(
     output: &mut [u8],
 ) -> usize
     requires slots { Slots slots.now × Listed slots.now waiting places.old × (length places.old ≡ 32) }
-    requires log_record_length_in_bounds { (handed.old + waiting) * log_record_length ≤ length output.old }
+    requires room { (handed.old + waiting) * log_record_length ≤ length output.old }
     ensures { Settles slots.now
         (stage (left own time high.old waiting handed.old floor.old) places.old marks.old barrier.old output.old)
         (stage (left own time high.new result handed.new floor.new) places.new marks.new barrier.new output.new) }

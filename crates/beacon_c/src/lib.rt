@@ -1,0 +1,38 @@
+// The status beacon for C, over the crate beacon: the same promise, called by C on a record that is lent
+// in its parts; include/panel.h makes of it a call on a pointer to the struct. It accepts any input. An
+// archive of its own: a second caller of `send_in_place` in that of `exports_c` would make every send a
+// call longer.
+#![tactic(auto)]
+
+ghost use Rattle.rules.specs.Calls.{beacon_lifetime};
+ghost use Rattle.rules.specs.Results.{send};
+ghost use Rattle.parts.specs.Record.{parts, PromisedInPlace};
+
+use parts::Answer;
+use slots::SLOTS;
+
+// The status beacon: in everything a send of this payload with the lifetime of a beacon.
+#[unsafe(no_mangle)]
+pub extern "C" fn panel_beacon_parts(
+    own: u8,
+    time: u64,
+    high: &mut u64,
+    count: &mut usize,
+    marks: &mut [u64; 64],
+    barrier: &mut [u64; 64],
+    slots: &mut [u8; SLOTS],
+    floor: &mut u64,
+    payload: &[u8],
+    output: &mut [u8],
+    buffer: &mut [u8],
+) -> Answer
+    ensures { PromisedInPlace
+        (parts own time high.old count.old marks.old barrier.old slots.old floor.old)
+        (send payload.now beacon_lifetime output.old buffer.old) result
+        (parts own time high.new count.new marks.new barrier.new slots.new floor.new)
+        output.new buffer.new }
+{
+    beacon::panel_beacon_parts(
+        own, time, high, count, marks, barrier, slots, floor, payload, output, buffer,
+    )
+}

@@ -1,4 +1,3 @@
--- The laws of a bundle's steps, what they say of a run of frames, and a reader taken apart and put together.
+-- The laws of a bundle's steps, and what they say of a run of frames.
 pub mod Steps
 pub mod Theorems
-pub mod Apart

@@ -1,19 +1,18 @@
--- The steps of a bundle, one law for each case; where a frame found lies; and what a reader gives of the step as C has it.
-use mathlib.Core.Path.{◌≡◌, refl, sym, ap, ◌∙◌, subst}
+-- The steps of a bundle, one law for each case; where a frame found lies; and that the part which the step as C has it names lies in the bundle.
+use mathlib.Core.Path.{◌≡◌, refl, sym, subst}
 use mathlib.Core.Bool.{Bool, true, false, cond}
 use mathlib.Core.List.{List}
 use Prim.Native.Nat.{ℕ, ◌+◌, ◌≤◌, ◌<◌}
 use native.Mathlib.Omega.{arith}
 use lib.Dec.{ltb, eqb}
-use lib.ListN.{length, take, drop}
-use denote.Ref.{Bor}
+use lib.ListN.{length}
 use borrow.Author.Tests.{ltb-false, lt-ltb, le-ltb, eq-eqb, ne_eqb}
 use Rattle.numbers.specs.Numbers.{number_at}
 use Rattle.bundle.specs.declared.Step.{Step}
 use Rattle.bundle.specs.declared.Step.TheVariants.{Frame, End, Broken}
 use Rattle.bundle.specs.declared.BundleStep.{BundleStep}
 use Rattle.bundle.specs.declared.Reader.{Reader}
-use Rattle.bundle.specs.Bundle.{step_at, part_of, frame_at, answer_of, Part, Gives}
+use Rattle.bundle.specs.Bundle.{step_at, answer_of}
 
 module _ (bundle : List ℕ) (place : ℕ) where
   pub step_past : length bundle < place → step_at bundle place ≡ Broken
@@ -81,36 +80,18 @@ step_found bundle place s l n e =
     let fits : place + 2 + number_at bundle place 2 ≤ length bundle = ltb-false (length bundle) (place + 2 + number_at bundle place 2) t4.0 in
     record { begins = omega arith; ends = omega arith; within = omega arith }
 
--- ---- the step as C has it
+-- ---- the step as C has it: the part that it names lies within the bundle
 
--- it names the part, within the bundle
-record Named (bundle : List ℕ) (place : ℕ) (answer : BundleStep) : Type 0 where
-  pub part : take answer.length (drop answer.start bundle) ≡ frame_at bundle place
-  pub within : answer.start + answer.length ≤ length bundle
-
-answer_names : (bundle : List ℕ) (place : ℕ) (step : Step) → step_at bundle place ≡ step → Named bundle place (answer_of step place)
-answer_names bundle place (Frame start size next) e =
+answer_within : (bundle : List ℕ) (place : ℕ) (step : Step) → step_at bundle place ≡ step
+    → (answer_of step place).start + (answer_of step place).length ≤ length bundle
+answer_within bundle place (Frame start size next) e =
     let found = step_found bundle place start size next e in
-    record { part = ap (part_of bundle) (sym e); within = omega (arith, found.ends, found.within) }
-answer_names bundle place End e = record { part = ap (part_of bundle) (sym e); within = omega arith }
-answer_names bundle place Broken e = record { part = ap (part_of bundle) (sym e); within = omega arith }
+    omega (arith, found.ends, found.within)
+answer_within bundle place End e = omega arith
+answer_within bundle place Broken e = omega arith
 
-module _ (reader : Reader) (answer : BundleStep) (is : answer ≡ answer_of (step_at reader.bundle.now reader.place) reader.place) where
-  named : Named reader.bundle.now reader.place answer
-  named = subst (Named reader.bundle.now reader.place) (sym is) (answer_names reader.bundle.now reader.place _ refl)
-
-  pub part_within : answer.start + answer.length ≤ length reader.bundle.now
-  part_within = named.within
-
-  -- what a reader gives is made of the step and of that part
-  pub gives : (part : Bor (List ℕ)) → Part reader.bundle answer.start (take answer.length (drop answer.start reader.bundle.now)) part
-      → Gives reader (record { kind = answer.kind; part = part; place = answer.next })
-  gives part at = record {
-    kind = ap (λ (a : BundleStep). a.kind) is;
-    part = record {
-      bytes = at.bytes ∙ named.part;
-      block = at.block;
-      place = at.place ∙ ap (λ (a : BundleStep). a.start + reader.bundle.ptr.1) is;
-    };
-    place = ap (λ (a : BundleStep). a.next) is;
-  }
+pub part_within : (reader : Reader) (answer : BundleStep) → answer ≡ answer_of (step_at reader.bundle.now reader.place) reader.place
+    → answer.start + answer.length ≤ length reader.bundle.now
+part_within reader answer is =
+    let fits : BundleStep → Type 0 = λ (a : BundleStep). a.start + a.length ≤ length reader.bundle.now in
+    subst fits (sym is) (answer_within reader.bundle.now reader.place _ refl)

@@ -22,6 +22,7 @@ pub enum Step {
 }
 
 // The step at a place of a bundle.
+#[tactic(auto, unfolding(crate::specs::Bundle::step_at))]
 pub fn step_at(bundle: &[u8], place: usize) -> Step
     ensures { result ≡ step_at bundle.now place }
 {
@@ -97,7 +98,7 @@ fn cut(bundle: &[u8], start: usize, size: usize) -> &[u8]
     &bundle[start..start + size]
 }
 
-// The reader: a bundle and a place in it. The functions that take or make one are proved by hand.
+// The reader: a bundle and a place in it.
 #[derive(Drop)]
 pub struct Reader<'a> {
     pub bundle: &'a [u8],

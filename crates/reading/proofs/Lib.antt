@@ -1,2 +1,3 @@
--- What is answered for bytes that pass.
+-- What is answered for bytes that pass, and the entries laid at their panels.
 pub mod Answers
+pub mod Filling

@@ -1,5 +1,5 @@
 -- The answers of the calls: turned down, or done. Assumes nothing.
-use Rattle.std.proofs.Common.{◌≡◌, ℕ, ◌+◌, ◌*◌, List, [], ◌∷◌, ◌++◌, length, sym, refl, ap, ◌∙◌, ap₂, append_assoc, arith, length-append}
+use Rattle.std.proofs.Common.{◌≡◌, ℕ, ◌*◌, List, [], ◌∷◌, ◌++◌, length, sym, refl, ap, ◌∙◌, ap₂, append_assoc, arith, length-append}
 use Rattle.numbers.specs.Buffer.{over}
 use Rattle.numbers.proofs.Over.{over-over}
 use Rattle.frame.specs.Message.{Message}

@@ -136,7 +136,7 @@ pub fn settle_slots(
     output: &mut [u8],
 ) -> usize
     requires slots { Slots slots.old × Listed slots.old waiting places }
-    requires log_record_length_in_bounds { (handed.old + waiting) * log_record_length ≤ length output.old }
+    requires room { (handed.old + waiting) * log_record_length ≤ length output.old }
     ensures { SettlesSlots slots.old
         (stage (left own time high.old waiting handed.old floor.old) places marks.old barrier.old output.old)
         slots.new

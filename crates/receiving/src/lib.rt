@@ -39,7 +39,7 @@ fn take(
 ) -> Settling
     requires reads { Reads frame.now × Slots slots.old × Kept slots.old s.waiting }
     requires fact { (s.waiting < 32) ⊎ (is_ready (asking marks.old s.time s.floor) (message_in width frame.now) ≡ true) }
-    requires log_record_length_in_bounds { s.handed * log_record_length + log_record_length ≤ length output.old }
+    requires room { s.handed * log_record_length + log_record_length ≤ length output.old }
     ensures { Taken (message_in width frame.now)
         slots.old (stage s (first_slots 32) marks.old barrier.old output.old)
         slots.new (stage result (first_slots 32) marks.new barrier.new output.new) }

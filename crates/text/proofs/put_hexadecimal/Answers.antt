@@ -1,8 +1,7 @@
 -- `text::put_hexadecimal` meets its contract: after i turns the digits of the first i bytes are put. Assumes nothing.
 use mathlib.Core.Path.{◌≡◌}
-use Prim.Native.Nat.{◌-◌}
 use native.Mathlib.Omega.{arith}
-use lib.ListN.{length, take, length-set}
+use lib.ListN.{take, length-set}
 use lib.Seq.{take_all}
 use Rattle.text.specs.Text.{hexadecimal}
 use Rattle.text.proofs.Puts.{put_nil}
@@ -33,13 +32,12 @@ overflow_add-behind c = let l = c.loop-i in omega (arith, l.invariant.2)
 
 pub loop-i-preserved : goal.loop-i-preserved
 loop-i-preserved c =
-    let l = c in
-    let a = l.before.before.before.args in
+    let l = c.loop-i in
     let byte = c.number_at-byte in (
       omega arith,
-      put_byte a.bytes.now l.loop.i byte.result _ _ (omega arith) byte.ensures.0 c.digit.ensures c.digit-in-loop-i.ensures
-          (omega (arith, l.loop.invariant.2)) l.loop.invariant.1,
-      omega (arith, l.loop.invariant.2),
+      put_byte c.args.bytes.now l.i byte.result _ _ (omega arith) byte.ensures.0 c.digit.ensures c.digit-in-loop-i.ensures
+          (omega (arith, l.invariant.2)) l.invariant.1,
+      omega (arith, l.invariant.2),
     )
 
 pub shape_of-text : goal.shape_of-text

@@ -29,6 +29,8 @@ message-number p m not_23 =
 
 -- After every list of demand 3: 0, 20, 21, 22 or 32.
 pub answers_on_the_way : (list : List Made) → Lawful list → AnswersOnTheWay list
+answers_on_the_way list lawful i number make [] (last ∷ heard) all promised made k = elim all [ ]
+answers_on_the_way list lawful i number make (frame ∷ frames) [] all promised made k = elim all [ ]
 answers_on_the_way list lawful i number make [] [] all promised made k = elim k [ ]
 answers_on_the_way list lawful i number make (frame ∷ frames) (last ∷ heard) (H, all) (promise, promised) made (first e) =
     let F = sent_in list lawful i make frame frames last heard (H, all) promised in

@@ -21,6 +21,7 @@ use Rattle.rules.proofs.Keeping.{log_with}
 use Rattle.arrivals.proofs.Barrier.{Ordered, Above}
 
 pub ahead_append : (x y : Name) (log more : List Name) → x is_in log → y is_in more → Ahead x y (log ++ more)
+ahead_append x y [] more i k = elim i [ ]
 ahead_append x y (z ∷ log) more (first e) k = inl (e, Memᴰ.append_right log k)
 ahead_append x y (z ∷ log) more (later i) k = inr (ahead_append x y log more i k)
 

@@ -33,6 +33,8 @@ here_sent {i} {make} {list} {frames} {heard} L read all A w h =
 
 after : (list : List Made) → Lawful list → AllPromised list → (i : ℕ) (make : Make) (frames : List (List ℕ)) (heard : List Made)
     → AllHeard (sends list) i make frames heard → AllPromised (heard ++ list) → After i make list frames heard
+after list lawful promised₀ i make [] (last ∷ heard) all promised = elim all [ ]
+after list lawful promised₀ i make (frame ∷ frames) [] all promised = elim all [ ]
 after list lawful promised₀ i make [] [] all promised = none_heard i make list
 after list lawful promised₀ i make (frame ∷ frames) (last ∷ heard) (H, all) (promise, promised) =
     let A = after list lawful promised₀ i make frames heard all promised in

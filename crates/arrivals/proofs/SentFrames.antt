@@ -53,6 +53,7 @@ call_reads p ss (set_back reading) len given frame = λ i. elim i [ ]
 
 pub sends_read : (list : List Made) → Lawful list → AllPromised list → (s : Sent) → s is_in sends list → refusal_of s.frame ≡ 0
 unfolding sends
+sends_read [] _ _ s i = elim i [ ]
 sends_read (last ∷ earlier) (given, lawful) (promise, promised) s i =
     ⊎_elim (λ k. here (Memᴰ.of_map (λ frame. record { frame = frame; past = log_at last.at earlier }) (frames_sent last.call last.result) k))
     (sends_read earlier lawful promised s)
@@ -84,6 +85,8 @@ quiet_sends last earlier e = rw e refl
 
 pub heard_lawful : (list : List Made) → Lawful list → (i : ℕ) (make : Make) (frames : List (List ℕ)) (heard : List Made)
     → AllHeard (sends list) i make frames heard → Lawful (heard ++ list) × (sends (heard ++ list) ≡ sends list)
+heard_lawful list lawful i make [] (last ∷ heard) all = elim all [ ]
+heard_lawful list lawful i make (frame ∷ frames) [] all = elim all [ ]
 heard_lawful list lawful i make [] [] all = (lawful, refl)
 heard_lawful list lawful i make (frame ∷ frames) (last ∷ heard) (H, all) =
     let (below, same) = heard_lawful list lawful i make frames heard all in
@@ -106,6 +109,8 @@ carries_sent read frame (s, k, f) = let (reads, same) = reads_alike frame s.fram
 -- so does each of the frames
 pub frames_sent_lem : {ss : List Sent} → AllRead ss → (i : ℕ) (make : Make) (frames : List (List ℕ)) (heard : List Made) → AllHeard ss i make frames heard
     → (frame : List ℕ) → frame is_in frames → (refusal_of frame ≡ 0) × WasSent ss (message_from frame)
+frames_sent_lem {ss = ss} read i make [] (last ∷ heard) all frame k = elim all [ ]
+frames_sent_lem {ss = ss} read i make (x ∷ frames) [] all frame k = elim all [ ]
 frames_sent_lem read i make [] [] all frame k = elim k [ ]
 frames_sent_lem {ss} read i make (x ∷ frames) (last ∷ heard) (H, all) frame (first e) =
     carries_sent read frame (subst⁻¹ (CarriesSent ss) e H.was_sent)

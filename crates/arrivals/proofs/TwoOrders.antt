@@ -92,7 +92,7 @@ module _ {i : ℕ} {make : Make} {list : List Made} {frames_one frames_two : Lis
       let J = hand_all_high (bare (given_to i make list)) T.after.handed in
       let mine = ap (λ (r : Panel). r.high) O.after.panel in
       let others = ap (λ (r : Panel). r.high) T.after.panel in
-      ⊎_elim (λ e. omega (arith, mine, others, e, J.at_least_lem)) (λ m. omega (arith, mine, others, m.2, J.each m.0 (handed m.0 m.1))) H.one
+      ⊎_elim (λ e. omega (arith, mine, others, e, J.at_least)) (λ m. omega (arith, mine, others, m.2, J.each m.0 (handed m.0 m.1))) H.one
 
   pub mark-le : (k : ℕ) → get_or p.marks k 0 ≤ get_or q.marks k 0
   mark-le k =

@@ -20,6 +20,7 @@ use parts::{OUTPUT, broken};
 use slots::{deadline, has_lapsed, is_waiting, mask, source};
 
 // The number of the first check that turns down a frame before its message is looked at, or 0: 26, 10, 1 to 8.
+#[tactic(auto, unfolding(frame::specs::Refusal::first_of))]
 fn frame_number(broken: bool, output: usize, frame: &[u8]) -> u8
     ensures { result ≡ first_of (frame_checks_on broken output frame.now) }
 {
@@ -37,6 +38,7 @@ const FARTHEST_AHEAD: u64 = 1209600;
 
 // The number of the first check but the last that turns down a message that was read, or 0: 20, 21, 32, 22. That
 // of 32 takes the time from the deadline, which is not below it past 21: a sum could pass 64 bits.
+#[tactic(auto, unfolding(rules::specs::Refusals::message_checks, rules::specs::Refusals::too_far_ahead, rules::specs::Panel::lapsed, rules::specs::Panel::has_lapsed, frame::specs::Refusal::first_of))]
 fn early_number<'a, 'b>(
     own: u8,
     time: u64,

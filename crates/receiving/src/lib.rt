@@ -38,7 +38,7 @@ fn take(
     output: &mut [u8],
 ) -> Settling
     requires reads { Reads frame.now × Slots slots.old × Kept slots.old s.waiting }
-    requires fact { (s.waiting < 32) ⊎ (is_ready (asking marks.old s.time s.floor) (message_in width frame.now) ≡ true) }
+    requires place { (s.waiting < 32) ⊎ (is_ready (asking marks.old s.time s.floor) (message_in width frame.now) ≡ true) }
     requires room { s.handed * log_record_length + log_record_length ≤ length output.old }
     ensures { Taken (message_in width frame.now)
         slots.old (stage s (first_slots 32) marks.old barrier.old output.old)

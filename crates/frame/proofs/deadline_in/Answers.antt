@@ -26,4 +26,4 @@ returns c =
     let s = c in
     let bs = s.args.frame.now in
     ap (λ (n : ℕ). n / 2 ^ (64 - 8 * s.args.width)) c.number_at.ensures.0
-    ∙ shifted bs (λ i. omega (arith, c.shared_slice_known-1.given i)) s.requires.1 s.args.width s.requires.0
+    ∙ shifted bs (λ i. omega (arith, c.type_inv.frame i)) s.requires.1 s.args.width s.requires.0

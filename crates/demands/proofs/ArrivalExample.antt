@@ -22,7 +22,7 @@ use Rattle.demands.specs.Runs.{Run, made_of}
 use Rattle.demands.specs.Functions.{Ran, panel_receive_parts, panel_receive}
 use Rattle.demands.specs.Lists.{FarmCall, module_call, farm, Follows}
 use Rattle.demands.proofs.Arriving.{farm_arrival_order}
-use Rattle.demands.proofs.Example.{lent, zeros, some, only3, opened, received, from3, from3_opened, from3_follows, from3_lawful}
+use Rattle.demands.proofs.Example.{lent, shared, zeros, some, only3, opened, received, from3, from3_opened, from3_follows, from3_lawful}
 
 -- the note, and then the beacon
 beacon_then : (run : Run) × Ran run
@@ -31,9 +31,9 @@ beacon_then = (
   _,
   panel_receive_parts (
     (some, (some, (some, (some, (some, (some, (some, (some, tt)))))))),
-    (0, (0, (lent deadline1, (lent 0, (lent (only3 deadline1), (lent (only3 deadline1), (lent zeros, (lent 0, (lent frame2, (lent output, tt)))))))))),
+    (0, (0, (lent deadline1, (lent 0, (lent (only3 deadline1), (lent (only3 deadline1), (lent zeros, (lent 0, (shared frame2, (lent output, tt)))))))))),
     record { count = 1; length = 0; number = 0 },
-    (0, (0, (lent deadline2, (lent 0, (lent (only3 deadline2), (lent (only3 deadline2), (lent zeros, (lent 0, (lent frame2, (lent (output_with (logged2 ∷ [])), tt)))))))))),
+    (0, (0, (lent deadline2, (lent 0, (lent (only3 deadline2), (lent (only3 deadline2), (lent zeros, (lent 0, (shared frame2, (lent (output_with (logged2 ∷ [])), tt)))))))))),
     (refl, λ refused. absurd (refused refl)),
     refl,
   ),
@@ -54,9 +54,9 @@ beacon_first = (
   _,
   panel_receive (
     (some, (some, tt)),
-    (panel0 0 zeros, (lent narrow2, (lent output, tt))),
+    (panel0 0 zeros, (shared narrow2, (lent output, tt))),
     record { panel = panel0 1 beacon_waits; count = 0; number = 0 },
-    (panel0 0 zeros, (lent narrow2, (lent output, tt))),
+    (panel0 0 zeros, (shared narrow2, (lent output, tt))),
     (refl, λ refused. absurd (refused refl)),
     refl,
   ),
@@ -69,9 +69,9 @@ note_then = (
   _,
   panel_receive_parts (
     (some, (some, (some, (some, (some, (some, (some, (some, tt)))))))),
-    (0, (0, (lent 0, (lent 1, (lent none64, (lent none64, (lent beacon_waits, (lent 0, (lent frame1, (lent output, tt)))))))))),
+    (0, (0, (lent 0, (lent 1, (lent none64, (lent none64, (lent beacon_waits, (lent 0, (shared frame1, (lent output, tt)))))))))),
     record { count = 2; length = 0; number = 0 },
-    (0, (0, (lent deadline2, (lent 0, (lent (only3 deadline2), (lent (only3 deadline2), (lent beacon_waits, (lent 0, (lent frame1, (lent (output_with (logged1 ∷ logged2 ∷ [])), tt)))))))))),
+    (0, (0, (lent deadline2, (lent 0, (lent (only3 deadline2), (lent (only3 deadline2), (lent beacon_waits, (lent 0, (shared frame1, (lent (output_with (logged1 ∷ logged2 ∷ [])), tt)))))))))),
     (refl, λ refused. absurd (refused refl)),
     refl,
   ),

@@ -9,7 +9,7 @@ use mathlib.Core.List.Memᴰ.{head as first}
 use mathlib.Core.List.Memᴰ.{tail as later}
 use mathlib.Core.List.{List, [], ◌∷◌, ◌++◌}
 use lib.ListN.{drop, replicate}
-use denote.Ref.{Bor}
+use denote.Ref.{Bor, MutBor}
 use Rattle.rules.specs.Panel.{Name, old_make, none64, fresh, of_make}
 use Rattle.rules.specs.Panel.{Panel as Record}
 use Rattle.rules.specs.Results.{send, receive, defined}
@@ -24,9 +24,13 @@ use Rattle.demands.specs.Runs.{Run}
 use Rattle.demands.specs.Functions.{Ran, panel_clock_parts, panel_set_back_parts, panel_set_back, panel_send, panel_beacon_parts, panel_receive_parts}
 use Rattle.demands.specs.Lists.{FarmCall, module_call, other_call, farm, Follows}
 
--- something lent, with this value
-abbrev pub lent : {X : Type 0} → X → Bor X
-lent value = record { ref_ptr = (0, 0); now = value }
+-- something lent to be written, with this value
+abbrev pub lent : {X : Type 0} → X → MutBor X
+lent value = record { ref_ptr = (0, 0); ghost_name = 0; now = value }
+
+-- something lent to be read, with this value
+abbrev pub shared : {X : Type 0} → X → Bor X
+shared value = record { ref_ptr = (0, 0); now = value }
 
 abbrev pub zeros : List ℕ
 zeros = replicate slots_length 0
@@ -85,9 +89,9 @@ set_back_again = (
   _,
   panel_set_back_parts (
     (some, (some, tt)),
-    (3, (lent 100, (0, (0, (lent none64, (lent none64, (lent zeros, (0, (200, tt))))))))),
+    (3, (lent 100, (0, (0, (shared none64, (shared none64, (shared zeros, (0, (200, tt))))))))),
     0,
-    (3, (lent 100, (0, (0, (lent none64, (lent none64, (lent zeros, (0, (200, tt))))))))),
+    (3, (lent 100, (0, (0, (shared none64, (shared none64, (shared zeros, (0, (200, tt))))))))),
     (refl, λ refused. absurd (refused refl)),
     refl,
   ),
@@ -100,9 +104,9 @@ sent = (
   _,
   panel_send (
     (some, (some, (some, tt))),
-    (panel3 100 0 none64 none64, (lent (0x4f ∷ 0x4b ∷ []), (0, (lent output, (lent buffer, tt))))),
+    (panel3 100 0 none64 none64, (shared (0x4f ∷ 0x4b ∷ []), (0, (lent output, (lent buffer, tt))))),
     record { panel = panel3 100 deadline1 (only3 deadline1) (only3 deadline1); count = 1; length = 25; number = 0 },
-    (panel3 100 0 none64 none64, (lent (0x4f ∷ 0x4b ∷ []), (0, (lent (output_with (logged1 ∷ [])), (lent (frame1 ++ drop 25 buffer), tt))))),
+    (panel3 100 0 none64 none64, (shared (0x4f ∷ 0x4b ∷ []), (0, (lent (output_with (logged1 ∷ [])), (lent (frame1 ++ drop 25 buffer), tt))))),
     (refl, λ refused. absurd (refused refl)),
     refl,
   ),
@@ -115,9 +119,9 @@ beaconed = (
   _,
   panel_beacon_parts (
     (some, (some, (some, (some, (some, (some, (some, (some, (some, tt))))))))),
-    (3, (100, (lent deadline1, (lent 0, (lent (only3 deadline1), (lent (only3 deadline1), (lent zeros, (lent 0, (lent [], (lent output, (lent buffer, tt))))))))))),
+    (3, (100, (lent deadline1, (lent 0, (lent (only3 deadline1), (lent (only3 deadline1), (lent zeros, (lent 0, (shared [], (lent output, (lent buffer, tt))))))))))),
     record { count = 1; length = 31; number = 0 },
-    (3, (100, (lent deadline2, (lent 0, (lent (only3 deadline2), (lent (only3 deadline2), (lent zeros, (lent 0, (lent [], (lent (output_with (logged2 ∷ [])), (lent (frame2 ++ drop 31 buffer), tt))))))))))),
+    (3, (100, (lent deadline2, (lent 0, (lent (only3 deadline2), (lent (only3 deadline2), (lent zeros, (lent 0, (shared [], (lent (output_with (logged2 ∷ [])), (lent (frame2 ++ drop 31 buffer), tt))))))))))),
     (refl, λ refused. absurd (refused refl)),
     refl,
   ),
@@ -130,9 +134,9 @@ received = (
   _,
   panel_receive_parts (
     (some, (some, (some, (some, (some, (some, (some, (some, tt)))))))),
-    (0, (0, (lent 0, (lent 0, (lent none64, (lent none64, (lent zeros, (lent 0, (lent frame1, (lent output, tt)))))))))),
+    (0, (0, (lent 0, (lent 0, (lent none64, (lent none64, (lent zeros, (lent 0, (shared frame1, (lent output, tt)))))))))),
     record { count = 1; length = 0; number = 0 },
-    (0, (0, (lent deadline1, (lent 0, (lent (only3 deadline1), (lent (only3 deadline1), (lent zeros, (lent 0, (lent frame1, (lent (output_with (logged1 ∷ [])), tt)))))))))),
+    (0, (0, (lent deadline1, (lent 0, (lent (only3 deadline1), (lent (only3 deadline1), (lent zeros, (lent 0, (shared frame1, (lent (output_with (logged1 ∷ [])), tt)))))))))),
     (refl, λ refused. absurd (refused refl)),
     refl,
   ),
@@ -163,9 +167,9 @@ answered = (
   _,
   panel_receive_parts (
     (some, (some, (some, (some, (some, (some, (some, (some, tt)))))))),
-    (0, (0, (lent deadline1, (lent 0, (lent (only3 deadline1), (lent (only3 deadline1), (lent zeros, (lent 0, (lent answer_frame, (lent output, tt)))))))))),
+    (0, (0, (lent deadline1, (lent 0, (lent (only3 deadline1), (lent (only3 deadline1), (lent zeros, (lent 0, (shared answer_frame, (lent output, tt)))))))))),
     record { count = 1; length = 0; number = 0 },
-    (0, (0, (lent deadline2, (lent 0, (lent (of ((1, deadline2) ∷ (3, deadline1) ∷ [])), (lent (of ((1, deadline2) ∷ [])), (lent zeros, (lent 0, (lent answer_frame, (lent (output_with (logged (1 ∷ zeros4 (0x00 ∷ 0x00 ∷ 0x1c ∷ 0x85 ∷ 0 ∷ [])) ∷ [])), tt)))))))))),
+    (0, (0, (lent deadline2, (lent 0, (lent (of ((1, deadline2) ∷ (3, deadline1) ∷ [])), (lent (of ((1, deadline2) ∷ [])), (lent zeros, (lent 0, (shared answer_frame, (lent (output_with (logged (1 ∷ zeros4 (0x00 ∷ 0x00 ∷ 0x1c ∷ 0x85 ∷ 0 ∷ [])) ∷ [])), tt)))))))))),
     (refl, λ refused. absurd (refused refl)),
     refl,
   ),

@@ -1,34 +1,46 @@
-// Reads the bundle and writes its listing, through C's `read` and `write`, whose contracts the kit
-// assumes. They say nothing of the bytes: so `write_part`, which alone writes, has the precondition that
-// these are the next bytes of the listing.
-ghost use Rattle.std.specs.Prelude.{◌≡◌, ◌+◌, length};
-ghost use Rattle.listing.specs.Listing.{listing as listingOf};
+// Reads the bundle and writes its listing. `write_part`, which alone writes, has the precondition that
+// these are the next bytes of the listing. Which bytes a reader gives and a writer takes is promised
+// where their types know it; standard input's and standard output's don't.
+ghost use Rattle.std.specs.Prelude.{◌≡◌, ◌+◌, length, take, IfOk, OnOk, IfSome};
+ghost use Rattle.std.specs.Io.KnownBytes.{Appends};
+ghost use Rattle.listing.specs.Listing.{longest, listing as listingOf};
 ghost use Rattle.list.specs.Written.{BytesAt};
 
 use listing::start;
 use listing_parts::list_part;
 use slots::SLOTS;
+use std::alloc::Global;
+use std::io;
+use std::io::{Read, Write};
 
 // The bytes of the longest bundle that is listed.
 const LONGEST: usize = 65535;
 
 // Writes a part of the input's listing, which stands there from that place on, and gives the place
 // behind it. Only the contract looks at the input.
-fn write_part<'a, 'b>(input: &'a [u8], written: usize, part: &'b [u8]) -> usize
+fn write_part<'a, 'b, 'c, W: Write>(
+    writer: &'a mut W,
+    input: &'b [u8],
+    written: usize,
+    part: &'c [u8],
+) -> io::Result<usize>
     requires { BytesAt (listingOf input.now) written part.now }
-    ensures { result ≡ written + length part.now }
+    ensures place { IfOk result (λ n. n ≡ written + length part.now) }
+    ensures bytes { OnOk result (Appends (W.contents writer.old) (W.contents writer.new) part.now) }
 {
-    io::write_all(1, part);
-    written + part.len()
+    writer.write_all(part)?;
+    Ok(written + part.len())
 }
 
 // Writes the listing part after part until nothing is left, and gives its length. The panel is a fresh
 // one, number 0, at time 0. Of an input above the longest bundle it is only `long`.
-fn print_listing(input: &[u8]) -> usize
-    ensures { result ≡ length (listingOf input.now) }
+fn print_listing<W: Write>(writer: &mut W, input: &[u8]) -> io::Result<usize>
+    ensures all { IfOk result (λ n. n ≡ length (listingOf input.now)) }
+    ensures bytes { OnOk result (Appends (W.contents writer.old) (W.contents writer.new)
+        (listingOf input.now)) }
 {
     if LONGEST < input.len() {
-        return write_part(input, 0, b"long\n");
+        return write_part(writer, input, 0, b"long\n");
     }
     let mut high = 0;
     let mut count = 0;
@@ -54,14 +66,31 @@ fn print_listing(input: &[u8]) -> usize
             &mut text,
         );
         let at = listing.at;
-        written = write_part(input, written, &text[..at]);
+        written = write_part(writer, input, written, &text[..at])?;
     }
-    written
+    Ok(written)
 }
 
-// One byte more than a bundle may have is read, so that a longer input is seen.
-pub fn list_input() {
-    let mut input = [0u8; LONGEST + 1];
-    let length = io::read_full(0, &mut input);
-    print_listing(&input[..length]);
+// Reads the input to its end, or one byte more than a bundle may have, so that a longer one is seen.
+fn read_input<R: Read + Drop>(alloc: Global, reader: R) -> io::Result<Vec<u8>>
+    ensures { IfOk result (λ input. IfSome (R.remaining reader)
+        (λ bytes. input.items ≡ take (longest + 1) bytes)) }
+{
+    let mut input = Vec::new(alloc);
+    reader.take(LONGEST as u64 + 1).read_to_end(&mut input)?;
+    Ok(input)
+}
+
+// The listing of all that there is to read, however long, goes to the writer.
+pub fn list_input<R: Read + Drop, W: Write>(
+    alloc: Global,
+    reader: R,
+    writer: &mut W,
+) -> io::Result<()>
+    ensures { OnOk result (IfSome (R.remaining reader)
+        (λ bytes. Appends (W.contents writer.old) (W.contents writer.new) (listingOf bytes))) }
+{
+    let input = read_input(alloc, reader)?;
+    print_listing(writer, &input)?;
+    Ok(())
 }

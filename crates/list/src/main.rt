@@ -3,6 +3,8 @@
 
 mod input;
 
-fn main() {
-    input::list_input();
+use std::io;
+
+fn main(rt: HostRuntime) -> io::Result<()> {
+    input::list_input(rt.alloc(), rt.stdin(), &mut rt.stdout())
 }

@@ -1,0 +1,3 @@
+-- The laws of what is printed and of what is read.
+pub mod Printing
+pub mod Taken

@@ -16,7 +16,7 @@ use Rattle.rules.proofs.BenchCases.{calls_opened}
 use Rattle.log_records.specs.LogRecords.{log_record_at, is_whole, fields_in, payload_in}
 use Rattle.text.specs.Text.{ascii, digit, decimal_in, hexadecimal}
 use Rattle.lines.specs.Lines.{item, outcome, frame_line, payload_text, hand_line, hand_lines}
-use Rattle.listing.specs.Listing.{State, start, received, lines_at, onward, state_after, goes_on, lines_from, longest, listing}
+use Rattle.listing.specs.Listing.{State, received, lines_at, onward, state_after, goes_on, lines_from, longest, listing}
 
 -- whoever unfolds this unfolds all that a listing is computed by
 opened : Unit {0}

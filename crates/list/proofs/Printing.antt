@@ -1,6 +1,6 @@
 -- The listing printed part after part.
-use Rattle.std.proofs.Common.{ℕ, ◌+◌, ◌*◌, ◌≤◌, ◌<◌, ◌≡◌, refl, ap, ap₂, ◌∙◌, List, [], ◌++◌, length, replicate, length-append, length-take, arith}
-use Rattle.std.specs.Prelude.{Option, true}
+use Rattle.std.proofs.Common.{ℕ, ◌+◌, ◌*◌, ◌≤◌, ◌<◌, ◌≡◌, refl, ap₂, ◌∙◌, List, [], ◌++◌, length, replicate, length-append, length-take, arith}
+use Rattle.std.specs.Prelude.{Option, true, Result, IfOk, OnOk}
 use Rattle.std.specs.Io.KnownBytes.{Appends}
 use Rattle.std.proofs.KnownBytes.{Appends-nil, Appends-trans}
 use Rattle.text.specs.Text.{ascii}
@@ -65,6 +65,16 @@ module _ {input : List ℕ} {before after : Option (List ℕ)} {size : ℕ} {tex
 pub long-there : (input : List ℕ) → longest < length input → BytesAt (listing input) 0 (ascii "long\n")
 unfolding ascii
 long-there input long = record { bytes = rw (long_listing input long) refl; small = omega arith }
+
+-- which is what is written, and what the writer got
+module _ (input : List ℕ) (long : longest < length input) {E : Type 0} (answer : Result ℕ E) where
+  pub long-all : IfOk answer (λ n. n ≡ 0 + length (ascii "long\n")) → IfOk answer (λ n. n ≡ length (listing input))
+  unfolding ascii
+  long-all written = rw (long_listing input long) written
+
+  pub long-got : (before after : Option (List ℕ)) → OnOk answer (Appends before after (ascii "long\n"))
+      → OnOk answer (Appends before after (listing input))
+  long-got before after got = rw (long_listing input long) got
 
 -- nothing yet: the panel is a fresh one, with 0 in each part
 pub printing-none : {input text : List ℕ} {before : Option (List ℕ)} {l : Listing} → (l.place ≡ 0) × (l.frames ≡ 0) × (l.more ≡ true)

@@ -10,7 +10,7 @@ use numbers::number_at;
 
 // What stands at a place: a frame, from start on, of so many bytes, and the place behind it; the end;
 // or broken. With end and broken the place stays.
-#[derive(Drop)]
+#[derive(Clone, Copy)]
 pub enum Step {
     Frame {
         start: usize,
@@ -50,7 +50,7 @@ pub fn step_at(bundle: &[u8], place: usize) -> Step
 
 // A step as C has it: kind 0 is a frame, 1 the end, 2 broken.
 #[repr(C)]
-#[derive(Drop)]
+#[derive(Clone, Copy)]
 pub struct BundleStep {
     pub start: usize,
     pub length: usize,
@@ -99,7 +99,7 @@ fn cut(bundle: &[u8], start: usize, size: usize) -> &[u8]
 }
 
 // The reader: a bundle and a place in it.
-#[derive(Drop)]
+#[derive(Clone, Copy)]
 pub struct Reader<'a> {
     pub bundle: &'a [u8],
     pub place: usize,
@@ -108,7 +108,7 @@ pub struct Reader<'a> {
 // What a reader gives: kind 0 is a frame, 1 the end, 2 broken; the frame as the part of the bundle
 // that it occupies, with end and broken the empty part at the bundle's start; and the place behind
 // it, with end and broken the reader's.
-#[derive(Drop)]
+#[derive(Clone, Copy)]
 pub struct NextFrame<'a> {
     pub kind: u8,
     pub part: &'a [u8],

@@ -14,7 +14,7 @@ pub use set_back::panel_set_back;
 // The answers: number is 0, or that of a refusal, with count 0 and the record as it
 // was given. count is that of the log records in the output.
 #[repr(C)]
-#[derive(Drop)]
+#[derive(Clone, Copy)]
 pub struct Received {
     pub panel: Panel,
     pub count: usize,
@@ -22,7 +22,7 @@ pub struct Received {
 }
 
 #[repr(C)]
-#[derive(Drop)]
+#[derive(Clone, Copy)]
 pub struct Clocked {
     pub panel: Panel,
     pub count: usize,
@@ -30,7 +30,7 @@ pub struct Clocked {
 }
 
 #[repr(C)]
-#[derive(Drop)]
+#[derive(Clone, Copy)]
 pub struct SetBack {
     pub panel: Panel,
     pub number: u8,

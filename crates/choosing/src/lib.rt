@@ -18,7 +18,7 @@ use numbers::number_at;
 use slots::{deadline, has_lapsed, kept_frame, mask, source};
 
 // The answer of the test for ready, and how many entries of the message were visited.
-#[derive(Drop)]
+#[derive(Clone, Copy)]
 pub struct Tested {
     pub ready: bool,
     pub visited: usize,

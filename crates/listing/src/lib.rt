@@ -19,7 +19,7 @@ pub const STEP_ROOM: usize = 4096;
 
 // Where the listing stands, beside its panel: the place in the bundle, the frames so far, the place
 // behind the text put so far, and whether it goes on.
-#[derive(Drop)]
+#[derive(Clone, Copy)]
 pub struct Listing {
     pub place: usize,
     pub frames: usize,

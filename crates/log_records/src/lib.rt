@@ -25,7 +25,7 @@ const PAYLOAD_MOST: u8 = 32;
 
 // The fields of a log record, with the length of its payload; all 0 where there is none.
 #[repr(C)]
-#[derive(Drop)]
+#[derive(Clone, Copy)]
 pub struct LogFields {
     pub deadline: u64,
     pub source: u8,

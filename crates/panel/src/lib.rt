@@ -15,7 +15,7 @@ pub use trace::panel_trace;
 // The record. Of the slots the first `count` hold the waiting messages in the order taken: 569 bytes
 // each, the length of a frame in 16 bits and then the frame, of version 2.
 #[repr(C)]
-#[derive(Drop)]
+#[derive(Clone, Copy)]
 pub struct Panel {
     pub own: u8,
     pub time: u64,
@@ -29,7 +29,7 @@ pub struct Panel {
 
 // number is 0, or 11.
 #[repr(C)]
-#[derive(Drop)]
+#[derive(Clone, Copy)]
 pub struct Fresh {
     pub panel: Panel,
     pub number: u8,

@@ -32,7 +32,7 @@ pub const OUTPUT: usize = 33 * LOG_RECORD;
 // that was lent as it was. count is that of the log records in the output, length that of the frame
 // that a send wrote to its buffer.
 #[repr(C)]
-#[derive(Drop)]
+#[derive(Clone, Copy)]
 pub struct Answer {
     pub count: usize,
     pub length: usize,

@@ -50,7 +50,7 @@ fn entries_by_panel(frame: &[u8], width: usize, mask: u64) -> [u64; 64]
 }
 
 // The fields of a frame. refusal is 0, or the number of the refusal with every other field 0.
-#[derive(Drop)]
+#[derive(Clone, Copy)]
 pub struct Fields {
     pub refusal: u8,
     pub source: u8,

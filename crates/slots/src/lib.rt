@@ -22,7 +22,7 @@ pub const SLOT: usize = 2 + BUFFER;
 pub const SLOTS: usize = 32 * SLOT;
 
 // Slots, so many of them, in order.
-#[derive(Drop)]
+#[derive(Clone, Copy)]
 pub struct Places {
     pub count: usize,
     pub slots: [u8; 32],

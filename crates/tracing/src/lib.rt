@@ -21,7 +21,7 @@ use widening::{first, widen};
 // with, or 0; whether the message is ready, and how many of its entries were visited, whatever the
 // number is. Bytes that read as no message are not ready, and have no visits.
 #[repr(C)]
-#[derive(Drop)]
+#[derive(Clone, Copy)]
 pub struct Trace {
     pub visited: usize,
     pub ready: bool,

@@ -8,7 +8,8 @@
 #
 # DESTDIR, if set, stands before PREFIX in all places written to, but not in panel.pc; AR chooses
 # the archiver. An archive is proved and built anew only where a file that it is made of, or the
-# kit, has changed. Nothing in target/ is looked at again otherwise: remove it to build from nothing.
+# kit, has changed. Nothing in target/ is looked at again otherwise: remove it, and the folders
+# crates/*/out, to build from nothing.
 set -eu
 
 if [ $# -ne 1 ] || [ -z "$1" ]; then
@@ -61,29 +62,37 @@ below() {
 sources() {
     rt version
     for name in $(below "$1"); do
-        find "crates/$name" -name must-fail -prune -o -type f -exec sha256sum {} + | LC_ALL=C sort
+        find "crates/$name" \( -name must-fail -o -name out \) -prune -o \
+            -type f -exec sha256sum {} + | LC_ALL=C sort
     done
 }
 
-# archive CRATE: proves the crate and builds target/staticlib/libCRATE.a.
+# build CRATE: proves the crate and what it stands on, and builds crates/CRATE/out/libCRATE.a, for
+# every x86-64.
+build() {
+    (cd "crates/$1" && exec rt lib --cpu=x86-64)
+}
+
+# archive CRATE: has target/libpanel/libCRATE.a built of the crate as it is.
 archive() {
     sources "$1" >"$built/sources"
-    if [ -f "target/staticlib/lib$1.a" ] && cmp -s "$built/sources" "$built/$1.made"; then
+    if [ -f "$built/lib$1.a" ] && cmp -s "$built/sources" "$built/$1.made"; then
         say "$1 is as it was when it was last proved and built"
         return
     fi
     rm -f "$built/$1.made"
     say "proving and building $1, and what it stands on"
-    quietly rt staticlib "$1"
+    quietly build "$1"
+    cp "crates/$1/out/lib$1.a" "$built/"
     mv "$built/sources" "$built/$1.made"
 }
 
 # One archive, with the objects of seven.
 mkdir -p "$built"
 rm -f "$built"/*.o "$built/libpanel.a"
-for crate in exports beacon setting_back tracing frame_check log_records bundle; do
+for crate in exports_c beacon_c setting_back_c tracing_c frame_check_c log_records_c bundle_c; do
     archive $crate
-    (cd "$built" && $ar x "../staticlib/lib$crate.a")
+    (cd "$built" && $ar x "lib$crate.a")
 done
 $ar crsD "$built/libpanel.a" "$built"/*.o
 

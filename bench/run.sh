@@ -24,6 +24,11 @@ quietly() {
     }
 }
 
+# Proves and builds the program list; rt run runs it too, here on no bytes.
+build_list() {
+    (cd crates/list && exec rt run </dev/null)
+}
+
 # Has callgrind count the instructions of the calls, and lists the sums. The
 # setting is for libc: without it a copy is one instruction that callgrind
 # counts once for each byte.
@@ -40,7 +45,7 @@ count() {
 mkdir -p $built
 ./install.sh $to
 say "proving and building list, unless it is as it was"
-quietly rt check list
+quietly build_list
 say "building the benchmark"
 $CC $flags -I$to/include -o $built/bench bench/*.c bench/agreement/*.c bench/table/*.c \
     $to/lib/libpanel.a -lpthread
@@ -71,4 +76,4 @@ $built/bench stack
 echo
 say "list on bundles, $rounds rounds"
 cd $built
-exec ./list_times ../bin/list ./list "$rounds" "$counting"
+exec ./list_times ../../crates/list/out/list ./list "$rounds" "$counting"

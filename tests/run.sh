@@ -7,6 +7,7 @@ set -eu
 cd "$(dirname "$0")/.."
 to=target/install # and no whole path, so that a blank in it does no harm
 built=target/tests
+list=crates/list/out/list
 warnings="-Wall -Wextra -Wpedantic -Wconversion -Werror"
 
 say() {
@@ -42,13 +43,18 @@ install_module() {
     esac
 }
 
-# The program list: what it prints for each bundle of tests/list.
+# The program list, proved and built; rt run runs it too, here on no bytes.
+build_list() {
+    (cd crates/list && exec rt run </dev/null)
+}
+
+# What it prints for each bundle of tests/list.
 test_list() {
-    rt check list >$built/log 2>&1 || fail "list is not proved: $(tail -n 3 $built/log)"
+    build_list >$built/log 2>&1 || fail "list is not proved: $(tail -n 3 $built/log)"
     runs=0
     for bundle in tests/list/*.in; do
         expected=${bundle%.in}.out
-        target/bin/list <"$bundle" >$built/given || fail "list ends with status $? on $bundle"
+        $list <"$bundle" >$built/given || fail "list ends with status $? on $bundle"
         cmp $expected $built/given || fail "list prints another text on $bundle than $expected"
         runs=$((runs + 1))
     done
@@ -119,9 +125,9 @@ build_beside() {
 
 test_beside() {
     wait $building || fail "the second implementation was not built"
-    $built/beside --list target/bin/list --faults >$built/faults 2>&1 &
+    $built/beside --list $list --faults >$built/faults 2>&1 &
     faults=$!
-    $built/beside --list target/bin/list
+    $built/beside --list $list
     docs/barriers.sh --check
     status=0
     wait $faults || status=$?

@@ -68,7 +68,7 @@ orders, which have to end alike.
 
   --seed N       other random calls; 1 if not given
   --calls N      calls in lists, with which the other parts grow; 1000000 if not given
-  --list PATH    the program list; target/bin/list if not given
+  --list PATH    the program list; crates/list/out/list if not given
   --faults       plants faults in the second implementation, one at a time, and fails if one goes
                  unnoticed
   --replay FILE  makes the calls of a file, as a difference prints them
@@ -96,7 +96,7 @@ fn options() -> Option<Options> {
     let mut options = Options {
         seed: 1,
         calls: 1_000_000,
-        list: PathBuf::from("target/bin/list"),
+        list: PathBuf::from("crates/list/out/list"),
         task: Task::Compare,
     };
     let mut arguments = env::args().skip(1);

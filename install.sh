@@ -27,6 +27,7 @@ case $to in
 esac
 cd "$(dirname "$0")"
 built=$PWD/target/libpanel
+kit=$(rt version)
 ar=${AR:-ar}
 
 say() {
@@ -60,7 +61,7 @@ below() {
 
 # sources CRATE: the kit's identity, and the sum of each file that the crate's archive is made of.
 sources() {
-    rt version
+    echo "$kit"
     for name in $(below "$1"); do
         find "crates/$name" \( -name must-fail -o -name out \) -prune -o \
             -type f -exec sha256sum {} + | LC_ALL=C sort

@@ -1,6 +1,6 @@
-// The status beacon in place, for C, on a record that is lent in its parts; include/panel.h makes of it
-// a call on a pointer to the struct. It accepts any input. A crate and an archive of its own: a second
-// caller of `send_in_place` in `exports` would make every send a call longer.
+// The status beacon in place, for C, on a record that is lent in its parts; `beacon_c` exports it, and
+// include/panel.h makes of it a call on a pointer to the struct. It accepts any input. A crate of its
+// own, as the archive is (`beacon_c` says why).
 #![tactic(auto)]
 
 ghost use Rattle.rules.specs.Calls.{beacon_lifetime};
@@ -13,8 +13,7 @@ use sending::send_in_place;
 use slots::SLOTS;
 
 // The status beacon: in everything a send of this payload with the lifetime of a beacon.
-#[unsafe(no_mangle)]
-pub extern "C" fn panel_beacon_parts(
+pub fn panel_beacon_parts(
     own: u8,
     time: u64,
     high: &mut u64,

@@ -58,10 +58,9 @@ pub struct BundleStep {
     pub kind: u8,
 }
 
-// The step at a place of a bundle, for C. With end and broken start and length are 0, and next is
-// the place.
-#[unsafe(no_mangle)]
-pub extern "C" fn panel_bundle_step(bundle: &[u8], place: usize) -> BundleStep
+// The step at a place of a bundle, for C, to which `bundle_c` exports it. With end and broken start and
+// length are 0, and next is the place.
+pub fn panel_bundle_step(bundle: &[u8], place: usize) -> BundleStep
     ensures { result ≡ answer_of (step_at bundle.now place) place }
 {
     match step_at(bundle, place) {

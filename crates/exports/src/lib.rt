@@ -1,6 +1,6 @@
-// The calls in place for C, on a record that is lent in its parts; include/panel.h makes of them calls
-// on a pointer to the struct. Each accepts any input, and may touch what the call may (fresh: every
-// part).
+// The calls in place for C, on a record that is lent in its parts; `exports_c` exports them, and
+// include/panel.h makes of them calls on a pointer to the struct. Each accepts any input, and may touch
+// what the call may (fresh: every part).
 #![tactic(auto)]
 
 ghost use Rattle.std.specs.Prelude.{[]};
@@ -15,8 +15,7 @@ use sending::send_in_place;
 use slots::SLOTS;
 
 // A fresh panel, with all bytes of its slots 0; for a number above 63 it is panel 0, with 11.
-#[unsafe(no_mangle)]
-pub extern "C" fn panel_fresh_parts(
+pub fn panel_fresh_parts(
     number: u8,
     own: &mut u8,
     time: &mut u64,
@@ -46,8 +45,7 @@ pub extern "C" fn panel_fresh_parts(
 }
 
 // A payload is sent with a lifetime: its frame stands in the buffer, and the log records in the output.
-#[unsafe(no_mangle)]
-pub extern "C" fn panel_send_parts(
+pub fn panel_send_parts(
     own: u8,
     time: u64,
     high: &mut u64,
@@ -73,8 +71,7 @@ pub extern "C" fn panel_send_parts(
 }
 
 // A frame is received: the log records stand in the output.
-#[unsafe(no_mangle)]
-pub extern "C" fn panel_receive_parts(
+pub fn panel_receive_parts(
     own: u8,
     time: u64,
     high: &mut u64,
@@ -98,8 +95,7 @@ pub extern "C" fn panel_receive_parts(
 }
 
 // The clock shows a time: the log records stand in the output.
-#[unsafe(no_mangle)]
-pub extern "C" fn panel_clock_parts(
+pub fn panel_clock_parts(
     own: u8,
     time: &mut u64,
     high: &mut u64,

@@ -1,5 +1,6 @@
-// The frame check, for C too: 0, or the refusal number of the reading. It goes through the checks in the
-// order of their table, in one body for both versions. Each public function accepts any input.
+// The frame check, for C too (`frame_check_c` exports it): 0, or the refusal number of the reading. It
+// goes through the checks in the order of their table, in one body for both versions. Each public
+// function accepts any input.
 #![tactic(auto)]
 
 ghost use Rattle.std.specs.Prelude.{◌≡◌, ◌+◌, ◌*◌, ◌<◌, ◌≤◌, length, take, ◌==◌};
@@ -92,8 +93,7 @@ fn check(frame: &[u8], width: usize) -> u8
 }
 
 // 0, or the refusal number of the reading.
-#[unsafe(no_mangle)]
-pub extern "C" fn frame_check(frame: &[u8]) -> u8
+pub fn frame_check(frame: &[u8]) -> u8
     ensures { result ≡ refusal_of frame.now }
 {
     if frame.len() < SHORTEST_NARROW {

@@ -1,5 +1,5 @@
-// Log records read: what the record of an index in an output or a log says, and its payload as a
-// part of the log. Each public function accepts any input.
+// Log records read: what the record of an index in an output or a log says (for C too: `log_records_c`
+// exports it), and its payload as a part of the log. Each public function accepts any input.
 #![tactic(auto)]
 
 ghost use Rattle.std.specs.Prelude.{◌≡◌};
@@ -43,8 +43,7 @@ fn is_whole(log: &[u8], index: usize) -> bool
 }
 
 // The fields of the log record of that index.
-#[unsafe(no_mangle)]
-pub extern "C" fn panel_log_fields(log: &[u8], index: usize) -> LogFields
+pub fn panel_log_fields(log: &[u8], index: usize) -> LogFields
     ensures { result ≡ fields_in (log_record_at log.now index) }
 {
     if !is_whole(log, index) {

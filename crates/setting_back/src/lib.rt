@@ -1,7 +1,7 @@
 // Setting a clock back, the service call of W-207 in document 02, in place for C, on a record that is
-// lent in its parts; include/panel.h makes of it a call on a pointer to the struct. Of the record it may
-// touch the time alone. It accepts any input. A crate and an archive of its own: the object of
-// the other calls is not longer by it.
+// lent in its parts; `setting_back_c` exports it, and include/panel.h makes of it a call on a pointer to
+// the struct. Of the record it may touch the time alone. It accepts any input. A crate of its own, as
+// the archive is (`setting_back_c` says why).
 #![tactic(auto)]
 
 ghost use Rattle.std.specs.Prelude.{[]};
@@ -14,8 +14,7 @@ use slots::SLOTS;
 
 // The time becomes the lower of its own and the reading. Nothing is handed and nothing dropped; all
 // else of the record is as it was. The answer is 0, or 26.
-#[unsafe(no_mangle)]
-pub extern "C" fn panel_set_back_parts<'a>(
+pub fn panel_set_back_parts<'a>(
     own: u8,
     time: &mut u64,
     high: u64,

@@ -1,6 +1,6 @@
-// A trace, on a record that is lent in its parts and only read; include/panel.h makes of it a call on a
-// pointer to the struct. It accepts any input. A crate and an archive of its own: what a receive calls
-// stays as short as it is where nobody asks for the visits.
+// A trace, on a record that is lent in its parts and only read; `tracing_c` exports it for C, and
+// include/panel.h makes of it a call on a pointer to the struct. It accepts any input. A crate of its
+// own, as the archive is (`tracing_c` says why).
 #![tactic(auto)]
 
 ghost use Rattle.std.specs.Prelude.{◌≡◌, cond};
@@ -80,8 +80,7 @@ fn trace_wide<'a, 'b>(
 }
 
 // A frame is looked at, and nothing is changed. One of version 1 is widened first.
-#[unsafe(no_mangle)]
-pub extern "C" fn panel_trace_parts<'a, 'b>(
+pub fn panel_trace_parts<'a, 'b>(
     own: u8,
     time: u64,
     high: u64,

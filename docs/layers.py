@@ -50,7 +50,7 @@ class Crate:
 def read_crates():
     """Each crate of crates.txt; its layer is the longest way down to the bottom."""
     lines = [line for line in read(ROOT / "crates.txt").splitlines() if line.strip() and not line.startswith("#")]
-    needs = {name: rest.split() for name, rest in (line.split(":") for line in lines)}
+    needs = {said.split()[0]: rest.split() for said, rest in (line.split(":") for line in lines)}  # a static library says so behind its name
     needs = {name: [other for other in rest if other in needs] for name, rest in needs.items()}  # without the kit's own
     layer = lambda name: max((layer(other) + 1 for other in needs[name]), default=0)
     below = lambda name: set(needs[name]).union(*(below(other) for other in needs[name]))
@@ -86,7 +86,7 @@ def measure(name):
     inside = False  # a promise that goes on in the next line
     for line in lines_of(f"{name}/src", ".rt", "//"):
         promise = inside or line.startswith(("requires", "ensures", "ghost use"))
-        inside = promise and not line.endswith(("⌝ }", ";"))
+        inside = promise and not line.endswith((" }", ";"))
         code, promises = code + (not promise), promises + promise
     promised = any(line.startswith("ensures") for line in lines_of(f"{name}/src", ".rt", "//"))
     return {"code": code, "promises": promises, "definitions": len(lines_of(f"{name}/specs", ".antt", "--")), "promised": promised,

@@ -1,15 +1,14 @@
 // Reads the bundle and writes its listing. `write_part`, which alone writes, has the precondition that
 // these are the next bytes of the listing. Which bytes a reader gives and a writer takes is promised
 // where their types know it; standard input's and standard output's don't.
-ghost use Rattle.std.specs.Prelude.{◌≡◌, ◌+◌, length, take, IfOk, OnOk, IfSome};
+ghost use Rattle.std.specs.Prelude.{◌≡◌, ◌+◌, ◌≤◌, length, take, IfOk, OnOk, IfSome};
 ghost use Rattle.std.specs.Io.KnownBytes.{Appends};
-ghost use Rattle.listing.specs.Listing.{longest, listing as listingOf};
+ghost use Rattle.listing.specs.Listing.{listing as listingOf};
 ghost use Rattle.list.specs.Written.{BytesAt};
 
 use listing::start;
 use listing_parts::list_part;
 use slots::SLOTS;
-use std::alloc::Global;
 use std::io;
 use std::io::{Read, Write};
 
@@ -71,26 +70,31 @@ fn print_listing<W: Write>(writer: &mut W, input: &[u8]) -> io::Result<usize>
     Ok(written)
 }
 
-// Reads the input to its end, or one byte more than a bundle may have, so that a longer one is seen.
-fn read_input<R: Read + Drop>(alloc: Global, reader: R) -> io::Result<Vec<u8>>
-    ensures { IfOk result (λ input. IfSome (R.remaining reader)
-        (λ bytes. input.items ≡ take (longest + 1) bytes)) }
+// Reads until the buffer is full or the input ends, and gives how many bytes it put at the buffer's start.
+fn read_full<R: Read>(reader: &mut R, buffer: &mut [u8]) -> io::Result<usize>
+    ensures within { IfOk result (λ n. n ≤ length buffer.new) }
+    ensures bytes { IfOk result (λ n. IfSome (R.remaining reader.old)
+        (λ bytes. take n buffer.new ≡ take (length buffer.new) bytes)) }
 {
-    let mut input = Vec::new(alloc);
-    reader.take(LONGEST as u64 + 1).read_to_end(&mut input)?;
-    Ok(input)
+    let mut done = 0;
+    while done < buffer.len() {
+        let n = reader.read(&mut buffer[done..])?;
+        if n == 0 {
+            return Ok(done);
+        }
+        done += n;
+    }
+    Ok(done)
 }
 
-// The listing of all that there is to read, however long, goes to the writer.
-pub fn list_input<R: Read + Drop, W: Write>(
-    alloc: Global,
-    reader: R,
-    writer: &mut W,
-) -> io::Result<()>
-    ensures { OnOk result (IfSome (R.remaining reader)
+// The listing of all that there is to read, however long, goes to the writer. One byte more than a
+// bundle may have is read, so that a longer input is seen.
+pub fn list_input<R: Read, W: Write>(reader: &mut R, writer: &mut W) -> io::Result<()>
+    ensures { OnOk result (IfSome (R.remaining reader.old)
         (λ bytes. Appends (W.contents writer.old) (W.contents writer.new) (listingOf bytes))) }
 {
-    let input = read_input(alloc, reader)?;
-    print_listing(writer, &input)?;
+    let mut input = [0u8; LONGEST + 1];
+    let length = read_full(reader, &mut input)?;
+    print_listing(writer, &input[..length])?;
     Ok(())
 }

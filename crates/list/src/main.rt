@@ -6,5 +6,5 @@ mod input;
 use std::io;
 
 fn main(rt: HostRuntime) -> io::Result<()> {
-    input::list_input(rt.alloc(), rt.stdin(), &mut rt.stdout())
+    input::list_input(&mut rt.stdin(), &mut rt.stdout())
 }

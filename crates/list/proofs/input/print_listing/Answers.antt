@@ -8,35 +8,35 @@ use Rattle.list.proofs.input.print_listing.Goals as goal
 
 pub write_part-requires : goal.write_part-requires
 unfolding ascii
-write_part-requires g c = long-there c.args.input.now c.if-input-gt-LONGEST.true
+write_part-requires g c = long-there c.args.input.now (omega arith)
 
 pub returns-then-input-gt-LONGEST-clause-all : goal.returns-then-input-gt-LONGEST-clause-all
 unfolding ascii
-returns-then-input-gt-LONGEST-clause-all g c = long-all _ c.if-input-gt-LONGEST.true _ c.write_part.ensures.place
+returns-then-input-gt-LONGEST-clause-all g c = long-all _ (omega arith) _ c.write_part.ensures.place
 
 pub returns-then-input-gt-LONGEST-clause-bytes : goal.returns-then-input-gt-LONGEST-clause-bytes
 unfolding ascii
-returns-then-input-gt-LONGEST-clause-bytes g c = long-got _ c.if-input-gt-LONGEST.true _ _ _ c.write_part.ensures.bytes
+returns-then-input-gt-LONGEST-clause-bytes g c = long-got _ (omega arith) _ _ _ c.write_part.ensures.bytes
 
 pub loop-listing-init : goal.loop-listing-init
 loop-listing-init g c = printing-none c.start-listing.ensures
 
 pub write_part-requires-in-loop-listing : goal.write_part-requires-in-loop-listing
 write_part-requires-in-loop-listing g c =
-    part-there c.loop-listing.invariant c.loop-listing-test.true c.if-input-gt-LONGEST.false (omega arith) c.list_part-listing.ensures
+    part-there c.loop-listing.invariant c.loop-listing-test.true (omega arith) (omega arith) c.list_part-listing.ensures
 
 pub loop-listing-preserved : goal.loop-listing-preserved
 loop-listing-preserved g c =
     rw c.in_ok-written.ensures.place
-    (printing-next c.loop-listing.invariant c.loop-listing-test.true c.if-input-gt-LONGEST.false (omega arith) c.list_part-listing.ensures
+    (printing-next c.loop-listing.invariant c.loop-listing-test.true (omega arith) (omega arith) c.list_part-listing.ensures
     (omega arith) c.in_ok-written.ensures.bytes)
 
 pub returns-clause-all : goal.returns-clause-all
 returns-clause-all g c =
     let l = c.loop-listing in
-    l.invariant.count ∙ ap length (parts_are_listing c.if-input-gt-LONGEST.false l.invariant.put (search rules))
+    l.invariant.count ∙ ap length (parts_are_listing (omega arith) l.invariant.put (search rules))
 
 pub returns-clause-bytes : goal.returns-clause-bytes
 returns-clause-bytes g c =
     let l = c.loop-listing in
-    rw (parts_are_listing c.if-input-gt-LONGEST.false l.invariant.put c.loop-listing-test.false) at l.invariant.got
+    rw (parts_are_listing (omega arith) l.invariant.put c.loop-listing-test.false) at l.invariant.got

@@ -1,6 +1,6 @@
 #!/usr/bin/env python3
 """Writes the bundles that the runs of "list" are given: that of the crate list, document 01's case 3, whose run is part of rt ci,
-and those of tests/list, which tests/run.sh runs (harvest.bundle is one of them).
+those of tests/list, which tests/run.sh runs, and harvest.bundle, which is one of them.
 
 usage: samples/bundles.py    (from anywhere; it writes into the repository that it stands in)
 
@@ -154,6 +154,7 @@ MANY_LINES = "".join(f"frame {i} taken\nhand 1 {i} -\n" for i in MANY) + "frame 
 
 FILES = {
     "crates/list/stdin": bundle(SECOND, FIRST),
+    "samples/harvest.bundle": HARVEST,
     "tests/list/harvest.in": HARVEST,
     "tests/list/old_and_new.in": OLD_AND_NEW,
     "tests/list/both_versions.in": BOTH_VERSIONS,

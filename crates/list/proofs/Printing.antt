@@ -1,6 +1,6 @@
 -- The listing printed part after part.
-use Rattle.std.proofs.Common.{ℕ, ◌+◌, ◌*◌, ◌≤◌, ◌<◌, ◌≡◌, refl, ap₂, ◌∙◌, List, [], ◌++◌, length, replicate, length-append, length-take, arith}
-use Rattle.std.specs.Prelude.{Option, true, Result, IfOk, OnOk}
+use Rattle.std.proofs.Common.{ℕ, ◌+◌, ◌*◌, ◌≤◌, ◌<◌, ◌≡◌, refl, sym, ap, ap₂, ◌∙◌, List, [], ◌++◌, length, take, drop, replicate, append_assoc, length-append, length-take, take_at, take-append-drop, arith}
+use Rattle.std.specs.Prelude.{Option, true, Result, Ok, Err, IfOk, OnOk, OnErr}
 use Rattle.std.specs.Io.KnownBytes.{Appends}
 use Rattle.std.proofs.KnownBytes.{Appends-nil, Appends-trans}
 use Rattle.text.specs.Text.{ascii}
@@ -11,10 +11,24 @@ use Rattle.listing.specs.declared.Listing.{Listing}
 use Rattle.listing.specs.Listing.{longest, listing}
 use Rattle.listing.specs.Step.{Standing, standing, step_room, Placed}
 use Rattle.listing.proofs.Theorems.{long_listing}
-use Rattle.listing_parts.specs.Part.{part_in, PartPut, PartsPut}
+use Rattle.listing_parts.specs.Part.{lines_left, part_in, PartPut, PartsPut}
 use Rattle.listing_parts.specs.Part.PartsPut.{no_part, one_more}
-use Rattle.listing_parts.proofs.Theorems.{part_in_listing}
-use Rattle.list.specs.Written.{BytesAt}
+use Rattle.listing_parts.proofs.Theorems.{part_in_listing, parts-left}
+use Rattle.list.specs.Written.{BytesAt, AppendsSome}
+
+-- where a part is not written whole, the writer has got the first bytes of the whole
+some_more : (before after last : Option (List ℕ)) (parts part rest whole : List ℕ) → parts ++ (part ++ rest) ≡ whole
+    → Appends before after parts
+    → AppendsSome after last part
+    → AppendsSome before last whole
+some_more before after last parts part rest whole e got (m, put) =
+    let front = parts ++ take m part in
+    let split : whole ≡ front ++ (drop m part ++ rest) =
+    sym e
+    ∙ ap (λ (p : List ℕ). parts ++ (p ++ rest)) (sym (take-append-drop m part))
+    ∙ simp append_assoc in
+    let first : take (length front) whole ≡ front = ap (take (length front)) split ∙ take_at front (drop m part ++ rest) (length front) refl in
+    (length front, rw first (Appends-trans before after last parts (take m part) got put))
 
 -- so many bytes are written, those of the parts put so far, of which the writer holds each, and no more than 16,384 for each byte of the bundle
 -- that is passed; the buffer has its size
@@ -61,6 +75,12 @@ module _ {input : List ℕ} {before after : Option (List ℕ)} {size : ℕ} {tex
         placed = part.placed;
       }
 
+  -- if it is not written whole
+  pub printing_failed : (last : Option (List ℕ)) → AppendsSome after last (part_in filled s) → AppendsSome before last (listing input)
+  printing_failed last =
+      some_more before after last printing.parts (part_in filled s) (lines_left input s) (listing input)
+      (ap (λ (rest : List ℕ). printing.parts ++ rest) (sym part.lines) ∙ parts-left short printing.put) printing.got
+
 -- of a longer input only `long`
 pub long-there : (input : List ℕ) → longest < length input → BytesAt (listing input) 0 (ascii "long\n")
 unfolding ascii
@@ -75,6 +95,15 @@ module _ (input : List ℕ) (long : longest < length input) {E : Type 0} (answer
   pub long-got : (before after : Option (List ℕ)) → OnOk answer (Appends before after (ascii "long\n"))
       → OnOk answer (Appends before after (listing input))
   long-got before after got = rw (long_listing input long) got
+
+  pub long_failed : (before after : Option (List ℕ)) → OnErr answer (AppendsSome before after (ascii "long\n"))
+      → OnErr answer (AppendsSome before after (listing input))
+  long_failed before after got = rw (long_listing input long) got
+
+-- what holds holds of an error
+pub on_err : {T E P : Type 0} (answer : Result T E) → P → OnErr answer P
+on_err (Ok n) holds = tt
+on_err (Err e) holds = holds
 
 -- nothing yet: the panel is a fresh one, with 0 in each part
 pub printing-none : {input text : List ℕ} {before : Option (List ℕ)} {l : Listing} → (l.place ≡ 0) × (l.frames ≡ 0) × (l.more ≡ true)

@@ -4,7 +4,7 @@ use Rattle.std.proofs.lemmas.Slice.{take-put_mid_below}
 use borrow.Rule.Slice.PartMut.{put_mid, post_of}
 use lib.Seq.{take-add, take-append-le}
 use Rattle.std.specs.Prelude.{Option, None, Some, Bool, true, false, ltb}
-use Rattle.std.specs.Io.KnownBytes.{Appends, Consumes}
+use Rattle.std.specs.Io.KnownBytes.{Consumes}
 use Rattle.std.proofs.KnownBytes.{Consumes-trans}
 use borrow.Author.Tests.{ltb-true, ltb-false}
 use Rattle.listing.specs.Listing.{longest, listing}
@@ -45,11 +45,11 @@ listing-taken input = go (ltb longest (length input)) refl
         long_listing (take (longest + 1) input) one_more ∙ sym (long_listing input long)
     go false short = ap listing (take_all (longest + 1) input (omega (arith, ltb-false longest (length input) short)))
 
--- the listing of what is read is that of all that there is to read
-pub all_listed : (known : Option (List ℕ)) (read : List ℕ) (size : ℕ) (before after : Option (List ℕ))
+-- what holds of the listing of what is read holds of that of all that there is to read
+pub all_listed : (known : Option (List ℕ)) (read : List ℕ) (size : ℕ) (P : List ℕ → Type 0)
     → size ≡ longest + 1
     → IfSome known (λ bytes. read ≡ take size bytes)
-    → Appends before after (listing read)
-    → IfSome known (λ bytes. Appends before after (listing bytes))
-all_listed None read size before after room h listed = tt
-all_listed (Some bytes) read size before after room h listed = rw (h, room, listing-taken bytes) at listed
+    → P (listing read)
+    → IfSome known (λ bytes. P (listing bytes))
+all_listed None read size P room h listed = tt
+all_listed (Some bytes) read size P room h listed = rw (h, room, listing-taken bytes) at listed

@@ -1,19 +1,36 @@
 // Reads the bundle and writes its listing. `write_part`, which alone writes, has the precondition that
 // these are the next bytes of the listing. Which bytes a reader gives and a writer takes is promised
 // where their types know it; standard input's and standard output's don't.
-ghost use Rattle.std.specs.Prelude.{◌≡◌, ◌+◌, ◌≤◌, length, take, IfOk, OnOk, IfSome};
+ghost use Rattle.std.specs.Prelude.{◌≡◌, ◌+◌, ◌≤◌, length, take, IfOk, OnOk, OnErr, IfSome};
 ghost use Rattle.std.specs.Io.KnownBytes.{Appends};
 ghost use Rattle.listing.specs.Listing.{listing as listingOf};
-ghost use Rattle.list.specs.Written.{BytesAt};
+ghost use Rattle.list.specs.Written.{BytesAt, AppendsSome};
 
 use listing::start;
 use listing_parts::list_part;
 use slots::SLOTS;
 use std::io;
-use std::io::{Read, Write};
+use std::io::{ErrorKind, Read, Write};
 
 // The bytes of the longest bundle that is listed.
 const LONGEST: usize = 65535;
+
+// Writes all the bytes, however many the writer takes at a time. Where a write fails, the writer has got
+// those before.
+fn write_whole<W: Write>(writer: &mut W, bytes: &[u8]) -> io::Result<()>
+    ensures ok { OnOk result (Appends (W.contents writer.old) (W.contents writer.new) bytes.now) }
+    ensures err { OnErr result (AppendsSome (W.contents writer.old) (W.contents writer.new) bytes.now) }
+{
+    let mut done = 0;
+    while done < bytes.len() {
+        let n = writer.write(&bytes[done..])?;
+        if n == 0 {
+            return Err(io::Error::from(ErrorKind::WriteZero));
+        }
+        done += n;
+    }
+    Ok(())
+}
 
 // Writes a part of the input's listing, which stands there from that place on, and gives the place
 // behind it. Only the contract looks at the input.
@@ -26,8 +43,9 @@ fn write_part<'a, 'b, 'c, W: Write>(
     requires { BytesAt (listingOf input.now) written part.now }
     ensures place { IfOk result (λ n. n ≡ written + length part.now) }
     ensures bytes { OnOk result (Appends (W.contents writer.old) (W.contents writer.new) part.now) }
+    ensures err { OnErr result (AppendsSome (W.contents writer.old) (W.contents writer.new) part.now) }
 {
-    writer.write_all(part)?;
+    write_whole(writer, part)?;
     Ok(written + part.len())
 }
 
@@ -36,6 +54,8 @@ fn write_part<'a, 'b, 'c, W: Write>(
 fn print_listing<W: Write>(writer: &mut W, input: &[u8]) -> io::Result<usize>
     ensures all { IfOk result (λ n. n ≡ length (listingOf input.now)) }
     ensures bytes { OnOk result (Appends (W.contents writer.old) (W.contents writer.new)
+        (listingOf input.now)) }
+    ensures err { OnErr result (AppendsSome (W.contents writer.old) (W.contents writer.new)
         (listingOf input.now)) }
 {
     if LONGEST < input.len() {
@@ -88,10 +108,13 @@ fn read_full<R: Read>(reader: &mut R, buffer: &mut [u8]) -> io::Result<usize>
 }
 
 // The listing of all that there is to read, however long, goes to the writer. One byte more than a
-// bundle may have is read, so that a longer input is seen.
+// bundle may have is read, so that a longer input is seen. Where a read or a write fails, the writer has
+// got the listing's first bytes, or none.
 pub fn list_input<R: Read, W: Write>(reader: &mut R, writer: &mut W) -> io::Result<()>
-    ensures { OnOk result (IfSome (R.remaining reader.old)
+    ensures ok { OnOk result (IfSome (R.remaining reader.old)
         (λ bytes. Appends (W.contents writer.old) (W.contents writer.new) (listingOf bytes))) }
+    ensures err { OnErr result (IfSome (R.remaining reader.old)
+        (λ bytes. AppendsSome (W.contents writer.old) (W.contents writer.new) (listingOf bytes))) }
 {
     let mut input = [0u8; LONGEST + 1];
     let length = read_full(reader, &mut input)?;

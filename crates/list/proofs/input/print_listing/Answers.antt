@@ -3,7 +3,7 @@
 use Rattle.std.proofs.Common.{◌∙◌, ap, length, arith, rules}
 use Rattle.text.specs.Text.{ascii}
 use Rattle.listing_parts.proofs.Theorems.{parts_are_listing}
-use Rattle.list.proofs.Printing.{part-there, printing-next, long-there, long-all, long-got, printing-none}
+use Rattle.list.proofs.Printing.{part-there, printing-next, long-there, long-all, long-got, long_failed, on_err, printing_failed, printing-none}
 use Rattle.list.proofs.input.print_listing.Goals as goal
 
 pub write_part-requires : goal.write_part-requires
@@ -18,12 +18,22 @@ pub returns-then-input-gt-LONGEST-clause-bytes : goal.returns-then-input-gt-LONG
 unfolding ascii
 returns-then-input-gt-LONGEST-clause-bytes g c = long-got _ (omega arith) _ _ _ c.write_part.ensures.bytes
 
+pub returns-then-input-gt-LONGEST-clause-err : goal.returns-then-input-gt-LONGEST-clause-err
+unfolding ascii
+returns-then-input-gt-LONGEST-clause-err g c = long_failed _ (omega arith) _ _ _ c.write_part.ensures.err
+
 pub loop-listing-init : goal.loop-listing-init
 loop-listing-init g c = printing-none c.start-listing.ensures
 
 pub write_part-requires-in-loop-listing : goal.write_part-requires-in-loop-listing
 write_part-requires-in-loop-listing g c =
     part-there c.loop-listing.invariant c.loop-listing-test.true (omega arith) (omega arith) c.list_part-listing.ensures
+
+pub returns-in_err-written-clause-err : goal.returns-in_err-written-clause-err
+returns-in_err-written-clause-err g c =
+    on_err _
+    (printing_failed c.loop-listing.invariant c.loop-listing-test.true (omega arith) (omega arith) c.list_part-listing.ensures
+    _ c.in_err-written.ensures.err)
 
 pub loop-listing-preserved : goal.loop-listing-preserved
 loop-listing-preserved g c =

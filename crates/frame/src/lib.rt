@@ -4,12 +4,15 @@
 // as many bytes as are read.
 #![tactic(auto)]
 
+mod refusal;
+
 ghost use Rattle.std.specs.Prelude.{◌≡◌, ◌+◌, ◌≤◌, length};
 ghost use Rattle.numbers.specs.Numbers.{number_at};
 ghost use Rattle.frame.specs.Frame.{Width};
 ghost use Rattle.frame.specs.Reading.{width_in, deadline_in, count_in};
 
 use numbers::number_at;
+pub use refusal::{Refusal, number_in};
 
 // The mark, and the number that it makes with version 2 behind it, in five bytes.
 pub const MARK: u64 = 0x445259;

@@ -1,0 +1,2 @@
+-- The record in its parts, as it is lent.
+pub mod Record

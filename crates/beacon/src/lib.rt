@@ -5,7 +5,8 @@
 
 ghost use Rattle.rules.specs.Calls.{beacon_lifetime};
 ghost use Rattle.rules.specs.Results.{send};
-ghost use Rattle.parts.specs.Record.{parts, PromisedInPlace};
+ghost use Rattle.lent.specs.Record.{parts};
+ghost use Rattle.parts.specs.Record.{PromisedInPlace};
 
 use lifetimes::BEACON_LIFETIME;
 use parts::Answer;

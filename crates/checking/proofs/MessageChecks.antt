@@ -12,7 +12,7 @@ use Rattle.frame.proofs.FirstOf.{Past, pass, stop, each_number, Past-take, first
 use Rattle.rules.specs.Panel.{Panel, has_lapsed, lapsed, met, ready}
 use Rattle.rules.specs.Refusals.{is_waiting, farthest_ahead, too_far_ahead, message_checks}
 use Rattle.choosing.specs.Choice.{asking}
-use Rattle.parts.specs.Record.{parts, record_of}
+use Rattle.lent.specs.Record.{parts, record_of}
 use Rattle.checking.specs.Checks.{early_checks, full_number}
 
 -- ready asks for the marks, the time and the floor alone

@@ -11,7 +11,7 @@ ghost use Rattle.rules.specs.Panel.{ready as is_ready};
 ghost use Rattle.rules.specs.Refusals.{message_checks, receive_checks};
 ghost use Rattle.slots.specs.Slots.{Reads, Slots, Kept};
 ghost use Rattle.choosing.specs.Choice.{asking};
-ghost use Rattle.parts.specs.Record.{parts, record_of};
+ghost use Rattle.lent.specs.Record.{parts, record_of};
 ghost use Rattle.checking.specs.Checks.{frame_checks_on, NotNarrow, early_checks, full_number};
 
 use choosing::ready;

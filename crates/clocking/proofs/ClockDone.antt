@@ -16,7 +16,8 @@ use Rattle.slots.specs.Alive.{Alive}
 use Rattle.slots.specs.declared.Places.{Places}
 use Rattle.settling.specs.declared.Settling.{Settling}
 use Rattle.settling.specs.Record.{Stage, stage, panel_at}
-use Rattle.parts.specs.Record.{Parts, record_of, SettlesSlots}
+use Rattle.lent.specs.Record.{Parts, record_of}
+use Rattle.parts.specs.Record.{SettlesSlots}
 use Rattle.parts.proofs.Answering.{settled_promised}
 use Rattle.clocking.specs.Checks.{clock_checks_on}
 

@@ -7,7 +7,8 @@
 ghost use Rattle.std.specs.Prelude.{◌≡◌, []};
 ghost use Rattle.frame.specs.Refusal.{first_of};
 ghost use Rattle.rules.specs.Results.{clock};
-ghost use Rattle.parts.specs.Record.{parts, PromisedInPlace};
+ghost use Rattle.lent.specs.Record.{parts};
+ghost use Rattle.parts.specs.Record.{PromisedInPlace};
 ghost use Rattle.clocking.specs.Checks.{clock_checks_on};
 
 use parts::{Answer, OUTPUT, broken, settle_slots};

@@ -4,7 +4,7 @@ use mathlib.Core.List.{List, [], ◌∷◌}
 use Rattle.rules.specs.Panel.{Panel}
 use Rattle.rules.specs.Results.{Promised}
 use Rattle.rules.specs.Lists.{AllPromised}
-use Rattle.parts.specs.Record.{record_of}
+use Rattle.lent.specs.Record.{record_of}
 use Rattle.demands.specs.Runs.{Run, result_of}
 use Rattle.demands.specs.Functions.{Ran, panel_send_parts, panel_beacon_parts, panel_receive_parts, panel_clock_parts, panel_set_back_parts, panel_send, panel_beacon, panel_receive, panel_clock, panel_set_back}
 use Rattle.demands.specs.Lists.{FarmCall, module_call, other_call, farm, Follows}

@@ -4,7 +4,7 @@ use borrow.Fn.Kinds.{Dens, res_t, ended_of}
 use contract.Lifetimes.{Lfts}
 use denote.Triple.Clauses.{AtExit}
 use Rattle.rules.specs.Panel.{fresh}
-use Rattle.parts.specs.Record.{parts, record_of}
+use Rattle.lent.specs.Record.{parts, record_of}
 use Rattle.panel.specs.Record.{parts_of}
 use Rattle.exports.proofs.panel_fresh_parts.Kinds as in_place
 use Rattle.exports.proofs.panel_fresh_parts.Reads as in_place_reads

@@ -5,7 +5,7 @@ use contract.Lifetimes.{Lfts}
 use denote.Triple.Clauses.{AtExit}
 use Rattle.rules.specs.Calls.{beacon_lifetime}
 use Rattle.rules.specs.Results.{send, receive, clock, set_back}
-use Rattle.parts.specs.Record.{parts}
+use Rattle.lent.specs.Record.{parts}
 use Rattle.panel.specs.Record.{parts_of}
 use Rattle.exports.proofs.panel_send_parts.Kinds as send-parts
 use Rattle.exports.proofs.panel_send_parts.Reads as send-parts-reads

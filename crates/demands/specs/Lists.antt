@@ -3,7 +3,7 @@ use Rattle.std.specs.Prelude.{◌≡◌, List, [], ◌∷◌, map}
 use Rattle.rules.specs.Panel.{new_make}
 use Rattle.rules.specs.Results.{Promised}
 use Rattle.rules.specs.Lists.{Made, given_to}
-use Rattle.parts.specs.Record.{record_of}
+use Rattle.lent.specs.Record.{record_of}
 use Rattle.demands.specs.Runs.{Run, panel_of, made_of}
 use Rattle.demands.specs.Functions.{Ran}
 

@@ -4,7 +4,8 @@ use Rattle.rules.specs.Panel.{new_make}
 use Rattle.rules.specs.Results.{Call, Result}
 use Rattle.rules.specs.Lists.{Made}
 use Rattle.parts.specs.declared.Answer.{Answer}
-use Rattle.parts.specs.Record.{Parts, record_of, answered}
+use Rattle.lent.specs.Record.{Parts, record_of}
+use Rattle.parts.specs.Record.{answered}
 
 -- The record given to the call in its parts, the call, its answer, and as it ends the record and all bytes of the output and of the frame
 -- buffer lent to it. Of a call by value these are the parts of the struct given and of the struct given back.

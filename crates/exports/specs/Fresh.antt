@@ -2,7 +2,7 @@
 use Rattle.std.specs.Prelude.{ℕ, ◌≡◌, replicate}
 use Rattle.rules.specs.Refusals.{fresh_number, fresh_record}
 use Rattle.slots.specs.Slots.{slots_length}
-use Rattle.parts.specs.Record.{Parts, record_of}
+use Rattle.lent.specs.Record.{Parts, record_of}
 
 -- what fresh answers, and leaves in the parts: the record that document 01 gives for that number, and slots of zeros
 abbrev pub FreshInPlace : ℕ → ℕ → Parts → Type 0

@@ -5,7 +5,8 @@
 
 ghost use Rattle.std.specs.Prelude.{[]};
 ghost use Rattle.rules.specs.Results.{send, receive, clock};
-ghost use Rattle.parts.specs.Record.{parts, PromisedInPlace};
+ghost use Rattle.lent.specs.Record.{parts};
+ghost use Rattle.parts.specs.Record.{PromisedInPlace};
 ghost use Rattle.exports.specs.Fresh.{FreshInPlace};
 
 use clocking::clock_in_place;

@@ -4,29 +4,37 @@
 // Preconditions: readable frames, and room in the output; the calls of a panel refuse anything else.
 #![tactic(auto)]
 
-ghost use Rattle.std.specs.Prelude.{◌≡◌, ◌+◌, ◌*◌, ◌≤◌, max, length, get_or, replicate};
+ghost use Rattle.std.specs.Prelude.{◌≡◌, ◌+◌, ◌*◌, ◌≤◌, length};
 ghost use Rattle.numbers.specs.Buffer.{over};
 ghost use Rattle.frame.specs.Reading.{message_in};
 ghost use Rattle.rules.specs.Sizes.{width, log_record_length};
-ghost use Rattle.rules.specs.Handing.{raise, shortened, missed, log_record};
+ghost use Rattle.rules.specs.Handing.{log_record};
 ghost use Rattle.slots.specs.Slots.{Reads};
+ghost use Rattle.lent.specs.Record.{known, SameState};
+ghost use Rattle.handing.specs.Handed.{IsLogged, IsHanded};
 
-use frame::{MASK_AT, SHORTEST, WIDTH};
+use frame::{SHORTEST, WIDTH};
+use lent::State;
 use log_records::{DEADLINE_AT, LENGTH_AT, LOG_RECORD, PAYLOAD_AT};
-use numbers::{number_at, put_bytes, put_number};
+use numbers::{put_bytes, put_number};
 use passing::pass_entries;
-use slots::{deadline, source};
+use slots::{deadline, mask, source};
 
-// Puts zeros from a place on.
-fn put_zeros(buffer: &mut [u8], at: usize, count: usize)
-    requires { at + count ≤ length buffer.old }
-    ensures { buffer.new ≡ over buffer.old at (replicate count 0) }
+// The log records of a call: so many of them stand at the start of the output.
+#[derive(Drop)]
+pub struct Log<'a> {
+    pub output: &'a mut [u8],
+    pub count: usize,
+}
+
+// The payload of a readable frame: what stands behind the entries and the length byte.
+
+fn payload(frame: &[u8]) -> &[u8]
+    requires { Reads frame.now }
+    ensures { (result.now ≡ (message_in width frame.now).payload) × (length result.now ≤ 32) }
 {
-    let mut i = 0;
-    while i < count {
-        buffer[at + i] = 0;
-        i += 1;
-    }
+    let start = SHORTEST + WIDTH * (u64::count_ones(mask(frame)) as usize);
+    &frame[start..]
 }
 
 // Puts the log record of a readable frame's message at the start of a part of the output.
@@ -34,71 +42,41 @@ fn put_log_record(part: &mut [u8], frame: &[u8])
     requires { (log_record_length ≤ length part.old) × Reads frame.now }
     ensures { part.new ≡ over part.old 0 (log_record (message_in width frame.now)) }
 {
-    let start = SHORTEST + WIDTH * (u64::count_ones(number_at(frame, MASK_AT, 8)) as usize);
-    let length = frame.len() - start;
+    let payload = payload(frame);
     put_number(part, 0, 1, source(frame) as u64);
     put_number(part, DEADLINE_AT, WIDTH, deadline(frame));
-    put_number(part, LENGTH_AT, 1, length as u64);
-    put_zeros(part, PAYLOAD_AT, 32);
-    put_bytes(part, PAYLOAD_AT, &frame[start..]);
+    put_number(part, LENGTH_AT, 1, payload.len() as u64);
+    put_bytes(part, PAYLOAD_AT, &[0u8; 32]);
+    put_bytes(part, PAYLOAD_AT, payload);
 }
 
-// The larger of two numbers.
-fn larger(a: u64, b: u64) -> u64
-    ensures { result ≡ max a b }
+// Puts the message of a readable frame into the log, and raises its source's mark and barrier entry and
+// the record's high to at least its deadline. Its log record stands behind those of the messages handed
+// before it.
+#[tactic(auto, using(crate::proofs::Raising::source_few))]
+fn put_in_log(state: &mut State, log: &mut Log, frame: &[u8])
+    requires { Reads frame.now × (log.old.count * log_record_length + log_record_length ≤ length log.old.output.now) }
+    ensures same { SameState state.old state.new × (log.new.output.ghost_name ≡ log.old.output.ghost_name) }
+    ensures logged { IsLogged (message_in width frame.now) (known state.old) log.old (known state.new) log.new }
 {
-    if b < a {
-        return a;
-    }
-    b
-}
-
-// Puts the message of a readable frame into the log, raises its source's mark and barrier entry to at
-// least its deadline, and answers the record's new high. Its log record stands behind those of the
-// messages handed before it.
-fn put_in_log(
-    high: u64,
-    handed: usize,
-    marks: &mut [u64; 64],
-    barrier: &mut [u64; 64],
-    frame: &[u8],
-    output: &mut [u8],
-) -> u64
-    requires { Reads frame.now × (handed * log_record_length + log_record_length ≤ length output.old) }
-    ensures { (result ≡ max high (message_in width frame.now).deadline)
-        × (marks.new ≡ raise marks.old (message_in width frame.now))
-        × (barrier.new ≡ raise barrier.old (message_in width frame.now))
-        × (output.new ≡ over output.old (handed * log_record_length) (log_record (message_in width frame.now))) }
-{
-    let at = handed * LOG_RECORD;
+    let at = log.count * LOG_RECORD;
+    let output = &mut *log.output;
     put_log_record(&mut output[at..], frame);
+    log.count += 1;
     let deadline = deadline(frame);
     let source = source(frame) as usize;
-    marks[source] = larger(marks[source], deadline);
-    barrier[source] = larger(barrier[source], deadline);
-    larger(high, deadline)
+    state.marks[source] = state.marks[source].max(deadline);
+    state.barrier[source] = state.barrier[source].max(deadline);
+    *state.high = deadline.max(*state.high);
 }
 
-// Hands the message of a readable frame, and answers the record's new high: its entries are passed,
-// beside the marks and the barrier as they are, and then it is put into the log.
-pub fn hand(
-    time: u64,
-    high: u64,
-    handed: usize,
-    floor: &mut u64,
-    marks: &mut [u64; 64],
-    barrier: &mut [u64; 64],
-    frame: &[u8],
-    output: &mut [u8],
-) -> u64
-    requires { Reads frame.now × (handed * log_record_length + log_record_length ≤ length output.old) }
-    ensures { (result ≡ max high (message_in width frame.now).deadline)
-        × (marks.new ≡ raise marks.old (message_in width frame.now))
-        × (barrier.new ≡ raise (shortened barrier.old (message_in width frame.now).entries) (message_in width frame.now))
-        × (output.new ≡ over output.old (handed * log_record_length) (log_record (message_in width frame.now)))
-        × (floor.new ≡ max floor.old
-        (missed time floor.old (λ panel. get_or marks.old panel 0) (message_in width frame.now).entries)) }
+// Hands the message of a readable frame: its entries are passed, beside the marks and the barrier as they
+// are, and then it is put into the log.
+pub fn hand(state: &mut State, log: &mut Log, frame: &[u8])
+    requires { Reads frame.now × (log.old.count * log_record_length + log_record_length ≤ length log.old.output.now) }
+    ensures same { SameState state.old state.new × (log.new.output.ghost_name ≡ log.old.output.ghost_name) }
+    ensures handed { IsHanded (message_in width frame.now) (known state.old) log.old (known state.new) log.new }
 {
-    pass_entries(time, floor, marks, barrier, frame);
-    put_in_log(high, handed, marks, barrier, frame, output)
+    pass_entries(state.time, state.floor, state.marks, state.barrier, frame);
+    put_in_log(state, log, frame);
 }

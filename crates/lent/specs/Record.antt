@@ -2,7 +2,8 @@
 use Rattle.std.specs.Prelude.{◌≡◌, ℕ, List}
 use Rattle.rules.specs.Panel.{Panel as Record, new_make}
 use Rattle.slots.specs.Slots.{held, first_slots}
-use Rattle.lent.specs.declared.Lent.{Lent}
+use Rattle.lent.specs.declared.State.{State}
+use Rattle.lent.specs.declared.Waiting.{Waiting}
 use Rattle.lent.specs.declared.View.{View}
 
 -- The parts of a record, in the order in which every call has them: four numbers, marks, barrier, the slots, whose first `count` hold the
@@ -35,18 +36,36 @@ record_of p =
       make = new_make;
     }
 
+-- what a panel knows, but for the messages that wait
+pub record Known : Type 0 where
+  pub own : ℕ
+  pub time : ℕ
+  pub high : ℕ
+  pub marks : List ℕ
+  pub barrier : List ℕ
+  pub floor : ℕ
+
+-- what stands behind the references of a state
+abbrev pub known : State → Known
+known s = record { own = s.own; time = s.time; high = s.high.now; marks = s.marks.now; barrier = s.barrier.now; floor = s.floor.now }
+
+abbrev pub parts_with : Known → ℕ → List ℕ → Parts
+parts_with k count slots = parts k.own k.time k.high count k.marks k.barrier slots k.floor
+
 -- the parts behind the references: of a record that a call may change, and of one that it only reads
-abbrev pub parts_of : Lent → Parts
-parts_of p = parts p.own p.time p.high.now p.count.now p.marks.now p.barrier.now p.slots.now p.floor.now
+abbrev pub parts_of : State → Waiting → Parts
+parts_of s w = parts_with (known s) w.count.now w.slots.now
 
 abbrev pub parts_in : View → Parts
 parts_in p = parts p.own p.time p.high p.count p.marks.now p.barrier.now p.slots.now p.floor
 
--- each reference of a record still is the one that was lent: what stands behind it at the end is the caller's
-pub record SameReferences (before after : Lent) : Type 0 where
-  pub high : after.high.ghost_name ≡ before.high.ghost_name
-  pub count : after.count.ghost_name ≡ before.count.ghost_name
-  pub marks : after.marks.ghost_name ≡ before.marks.ghost_name
-  pub barrier : after.barrier.ghost_name ≡ before.barrier.ghost_name
-  pub slots : after.slots.ghost_name ≡ before.slots.ghost_name
-  pub floor : after.floor.ghost_name ≡ before.floor.ghost_name
+-- each reference still is the one that was lent: what stands behind it at the end is the caller's
+abbrev pub SameState : State → State → Type 0
+SameState before after =
+    (after.high.ghost_name ≡ before.high.ghost_name)
+    × (after.marks.ghost_name ≡ before.marks.ghost_name)
+    × (after.barrier.ghost_name ≡ before.barrier.ghost_name)
+    × (after.floor.ghost_name ≡ before.floor.ghost_name)
+
+abbrev pub SameWaiting : Waiting → Waiting → Type 0
+SameWaiting before after = (after.count.ghost_name ≡ before.count.ghost_name) × (after.slots.ghost_name ≡ before.slots.ghost_name)

@@ -1,5 +1,6 @@
-// A panel's record as it is lent to a call: own number and time as values, of the rest each part by a
-// reference of its own, since C lends them so. An internal crate.
+// A panel's record as it is lent to a call: each part by a reference of its own, since C lends them so; own
+// number and time as values. What handing works on stands in one struct, and the waiting list, whose frames
+// are handed, in another. An internal crate.
 #![tactic(auto)]
 
 ghost use Rattle.std.specs.Prelude.{◌≡◌};
@@ -7,17 +8,22 @@ ghost use Rattle.lent.specs.Record.{parts_of, parts_in};
 
 use slots::SLOTS;
 
-// A record that a call may change. Which of the parts it may touch, each call says.
+// What a panel knows, but for the messages that wait. Which of it a call may touch, each call says.
 #[derive(Drop)]
-pub struct Lent<'a> {
+pub struct State<'a> {
     pub own: u8,
     pub time: u64,
     pub high: &'a mut u64,
-    pub count: &'a mut usize,
     pub marks: &'a mut [u64; 64],
     pub barrier: &'a mut [u64; 64],
-    pub slots: &'a mut [u8; SLOTS],
     pub floor: &'a mut u64,
+}
+
+// The waiting list: how many messages wait, and the slots, of which so many hold them.
+#[derive(Drop)]
+pub struct Waiting<'a> {
+    pub count: &'a mut usize,
+    pub slots: &'a mut [u8; SLOTS],
 }
 
 // A record that is only read.
@@ -33,20 +39,20 @@ pub struct View<'a> {
     pub floor: u64,
 }
 
-impl Lent<'_> {
+impl<'a> View<'a> {
     // The record as it stands.
-    pub fn view(&self) -> View<'_>
-        ensures { parts_in result ≡ parts_of self.now }
+    pub fn of(state: &'a State, list: &'a Waiting) -> View<'a>
+        ensures { parts_in result ≡ parts_of state.now list.now }
     {
         View {
-            own: self.own,
-            time: self.time,
-            high: *self.high,
-            count: *self.count,
-            marks: self.marks,
-            barrier: self.barrier,
-            slots: self.slots,
-            floor: *self.floor,
+            own: state.own,
+            time: state.time,
+            high: *state.high,
+            count: *list.count,
+            marks: state.marks,
+            barrier: state.barrier,
+            slots: list.slots,
+            floor: *state.floor,
         }
     }
 }

@@ -6,7 +6,7 @@ use Rattle.std.proofs.KnownBytes.{Appends-nil, Appends-trans}
 use Rattle.text.specs.Text.{ascii}
 use Rattle.rules.specs.Panel.{none64, fresh}
 use Rattle.slots.specs.Slots.{slots_length, held, up_from}
-use Rattle.parts.specs.Record.{parts, record_of}
+use Rattle.lent.specs.Record.{parts, record_of}
 use Rattle.listing.specs.declared.Listing.{Listing}
 use Rattle.listing.specs.Listing.{longest, listing}
 use Rattle.listing.specs.Step.{Standing, standing, step_room, Placed}

@@ -3,7 +3,7 @@
 #![tactic(auto)]
 
 ghost use Rattle.std.specs.Prelude.{◌≡◌, true, length};
-ghost use Rattle.parts.specs.Record.{parts, record_of};
+ghost use Rattle.lent.specs.Record.{parts, record_of};
 ghost use Rattle.text.specs.Put.{Room};
 ghost use Rattle.listing.specs.Step.{step_room, standing, Placed, Stepped, Ended};
 

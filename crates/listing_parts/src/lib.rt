@@ -2,7 +2,7 @@
 // for, which the program "list" writes. An internal crate. Precondition: a place in the bundle.
 #![tactic(auto)]
 
-ghost use Rattle.parts.specs.Record.{parts, record_of};
+ghost use Rattle.lent.specs.Record.{parts, record_of};
 ghost use Rattle.listing.specs.Step.{standing, Placed};
 ghost use Rattle.listing_parts.specs.Part.{PartPut};
 

@@ -1,7 +1,7 @@
 -- The struct given back, over the parts left by a call in place. Assumes nothing.
 use mathlib.Core.Path.{◌≡◌, ap}
 use Prim.Native.Nat.{ℕ}
-use Rattle.parts.specs.Record.{Parts}
+use Rattle.lent.specs.Record.{Parts}
 use Rattle.panel.specs.declared.Panel.{Panel}
 use Rattle.panel.specs.Record.{parts_of, GivenBack}
 

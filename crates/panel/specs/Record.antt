@@ -1,8 +1,8 @@
 -- The record that the struct holds, and what a refusal by value gives back.
 use Rattle.std.specs.Prelude.{ℕ, ◌≡◌}
 use Rattle.rules.specs.Panel.{Panel as Record}
-use Rattle.parts.specs.Record.{Parts, parts}
-use Rattle.parts.specs.Record.{record_of as record_in}
+use Rattle.lent.specs.Record.{Parts, parts}
+use Rattle.lent.specs.Record.{record_of as record_in}
 use Rattle.panel.specs.declared.Panel.{Panel}
 
 -- the parts of the struct, and the record that it holds

@@ -20,7 +20,8 @@ use Rattle.slot_moves.specs.Moves.{Gathered}
 use Rattle.slot_moves.proofs.Kept.{held_gathered}
 use Rattle.settling.specs.Record.{Stage, stage, panel_at, output_place, Settles}
 use Rattle.settling.specs.declared.Settling.{Settling}
-use Rattle.parts.specs.Record.{Parts, parts, record_of, PromisedInPlace, SettlesSlots}
+use Rattle.lent.specs.Record.{Parts, parts, record_of}
+use Rattle.parts.specs.Record.{PromisedInPlace, SettlesSlots}
 
 -- ---- turned down
 

@@ -16,7 +16,8 @@ ghost use Rattle.rules.specs.Refusals.{broken as is_broken};
 ghost use Rattle.slots.specs.Slots.{Slots, Listed, first_slots};
 ghost use Rattle.settling.specs.Record.{left, stage};
 ghost use Rattle.parts.specs.Joined.{Joined};
-ghost use Rattle.parts.specs.Record.{parts, record_of, SettlesSlots};
+ghost use Rattle.lent.specs.Record.{parts, record_of};
+ghost use Rattle.parts.specs.Record.{SettlesSlots};
 
 use log_records::LOG_RECORD;
 use settling::settle;

@@ -25,7 +25,8 @@ use Rattle.slots.proofs.Kept.{held_order}
 use Rattle.choosing.specs.Choice.{asking}
 use Rattle.handing.proofs.LogRecord.{length-readable}
 use Rattle.settling.specs.Record.{Stage, stage, panel_at}
-use Rattle.parts.specs.Record.{Parts, parts, record_of, SettlesSlots}
+use Rattle.lent.specs.Record.{Parts, parts, record_of}
+use Rattle.parts.specs.Record.{SettlesSlots}
 use Rattle.receiving.specs.Steps.{taking, handed_at_once, Taken}
 use Rattle.checking.proofs.MessageChecks.{ready-asking}
 use Rattle.parts.proofs.Answering.{afterwards, settled_promised}

@@ -12,7 +12,8 @@ ghost use Rattle.rules.specs.Results.{receive};
 ghost use Rattle.slots.specs.Slots.{Reads, Slots, Kept, first_slots};
 ghost use Rattle.choosing.specs.Choice.{asking};
 ghost use Rattle.settling.specs.Record.{stage};
-ghost use Rattle.parts.specs.Record.{parts, PromisedInPlace};
+ghost use Rattle.lent.specs.Record.{parts};
+ghost use Rattle.parts.specs.Record.{PromisedInPlace};
 ghost use Rattle.checking.specs.Checks.{NotNarrow};
 ghost use Rattle.receiving.specs.Steps.{Taken};
 

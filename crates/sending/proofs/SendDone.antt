@@ -29,7 +29,8 @@ use Rattle.rules.proofs.LogRecords.{length-log_record}
 use Rattle.slots.specs.Slots.{Reads, Kept, first_slots}
 use Rattle.slots.proofs.Kept.{held_order}
 use Rattle.settling.specs.Record.{Stage, stage, panel_at}
-use Rattle.parts.specs.Record.{Parts, record_of, SettlesSlots}
+use Rattle.lent.specs.Record.{Parts, record_of}
+use Rattle.parts.specs.Record.{SettlesSlots}
 use Rattle.parts.proofs.Answering.{afterwards, settled_promised}
 use Rattle.sending.specs.Checks.{send_checks_on}
 

@@ -7,7 +7,8 @@
 ghost use Rattle.std.specs.Prelude.{◌≡◌};
 ghost use Rattle.frame.specs.Refusal.{first_of};
 ghost use Rattle.rules.specs.Results.{send};
-ghost use Rattle.parts.specs.Record.{parts, PromisedInPlace};
+ghost use Rattle.lent.specs.Record.{parts};
+ghost use Rattle.parts.specs.Record.{PromisedInPlace};
 ghost use Rattle.sending.specs.Checks.{send_checks_on};
 
 use frame::BUFFER;

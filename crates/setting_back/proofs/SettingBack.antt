@@ -10,7 +10,8 @@ use Rattle.rules.specs.Handing.{log_records}
 use Rattle.rules.specs.Calls.{setting_back}
 use Rattle.rules.specs.Refusals.{broken, set_back_checks}
 use Rattle.rules.specs.Results.{set_back, done, unless, defined}
-use Rattle.parts.specs.Record.{Parts, parts, record_of, PromisedInPlace}
+use Rattle.lent.specs.Record.{Parts, parts, record_of}
+use Rattle.parts.specs.Record.{PromisedInPlace}
 use Rattle.parts.proofs.Answering.{refused_in_place}
 use Rattle.setting_back.specs.Answer.{answer_of}
 

@@ -5,7 +5,8 @@
 
 ghost use Rattle.std.specs.Prelude.{[]};
 ghost use Rattle.rules.specs.Results.{set_back};
-ghost use Rattle.parts.specs.Record.{parts, PromisedInPlace};
+ghost use Rattle.lent.specs.Record.{parts};
+ghost use Rattle.parts.specs.Record.{PromisedInPlace};
 ghost use Rattle.setting_back.specs.Answer.{answer_of};
 
 use slots::SLOTS;

@@ -5,7 +5,7 @@
 
 ghost use Rattle.std.specs.Prelude.{◌≡◌, cond};
 ghost use Rattle.visits.specs.Visiting.{trace};
-ghost use Rattle.parts.specs.Record.{parts, record_of};
+ghost use Rattle.lent.specs.Record.{parts, record_of};
 ghost use Rattle.checking.specs.Checks.{NotNarrow};
 ghost use Rattle.tracing.specs.Shown.{shown_in};
 

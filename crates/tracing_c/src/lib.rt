@@ -6,7 +6,7 @@
 
 ghost use Rattle.std.specs.Prelude.{◌≡◌};
 ghost use Rattle.visits.specs.Visiting.{trace};
-ghost use Rattle.parts.specs.Record.{parts, record_of};
+ghost use Rattle.lent.specs.Record.{parts, record_of};
 ghost use Rattle.tracing.specs.Shown.{shown_in};
 
 use slots::SLOTS;

@@ -4,7 +4,7 @@ use mathlib.Core.List.{[]}
 use Rattle.frame.specs.Reading.{message_in}
 use Rattle.rules.specs.Sizes.{width}
 use Rattle.slots.proofs.Held.{length-first_slots}
-use Rattle.parts.specs.Record.{parts, record_of}
+use Rattle.lent.specs.Record.{parts, record_of}
 use Rattle.checking.specs.Checks.{full_number}
 use Rattle.checking.proofs.MessageChecks.{ready-asking, before_last, at_last}
 use Rattle.checking.proofs.message_number.Goals as goal

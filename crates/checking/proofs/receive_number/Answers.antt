@@ -7,7 +7,7 @@ use borrow.Author.Rules.{rules}
 use Rattle.frame.specs.Message.{Message}
 use Rattle.frame.specs.Refusal.{first_of}
 use Rattle.rules.specs.Refusals.{broken, message_checks}
-use Rattle.parts.specs.Record.{Parts, parts, record_of}
+use Rattle.lent.specs.Record.{Parts, parts, record_of}
 use Rattle.parts.proofs.Answering.{valid_kept}
 use Rattle.checking.specs.Checks.{frame_checks_on}
 use Rattle.checking.proofs.MessageChecks.{checks-asking}

@@ -12,7 +12,7 @@ use Rattle.rules.specs.Results.{clock}
 use Rattle.rules.proofs.Checks.{clock_passed}
 use Rattle.slots.specs.Slots.{first_slots}
 use Rattle.settling.specs.Record.{left, stage}
-use Rattle.parts.specs.Record.{Parts, parts, record_of}
+use Rattle.lent.specs.Record.{Parts, parts, record_of}
 use Rattle.parts.proofs.Answering.{refused_in_place, valid_kept}
 use Rattle.clocking.specs.Checks.{clock_checks_on}
 use Rattle.clocking.proofs.ClockDone.{clock_checks-on, clocked_done}

@@ -1,4 +1,4 @@
-use Rattle.parts.specs.Record.{parts, record_of}
+use Rattle.lent.specs.Record.{parts, record_of}
 use Rattle.listing.specs.Step.{standing}
 use Rattle.listing_parts.proofs.Filling.{bytes_left, Filling}
 use Rattle.listing_parts.proofs.list_part.Given as goal

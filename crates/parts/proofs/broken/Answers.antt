@@ -4,7 +4,7 @@ use Rattle.frame.proofs.Conjunction.{and_both}
 use Rattle.rules.specs.Panel.{Panel as Record}
 use Rattle.rules.specs.Refusals.{each_readable, broken}
 use Rattle.slots.proofs.Held.{length-first_slots}
-use Rattle.parts.specs.Record.{parts, record_of}
+use Rattle.lent.specs.Record.{parts, record_of}
 use Rattle.parts.proofs.Refusing.{broken_own, broken_above, broken_count, broken_waiting}
 use Rattle.parts.proofs.broken.Goals as goal
 

@@ -4,7 +4,7 @@ use Rattle.rules.specs.Results.{receive}
 use Rattle.rules.proofs.Checks.{receive_passed}
 use Rattle.slots.specs.Slots.{first_slots}
 use Rattle.settling.specs.Record.{left, stage}
-use Rattle.parts.specs.Record.{parts, record_of}
+use Rattle.lent.specs.Record.{parts, record_of}
 use Rattle.parts.proofs.Answering.{refused_in_place, valid_kept}
 use Rattle.checking.proofs.Checking.{wide_reads, wide-message}
 use Rattle.receiving.proofs.ReceiveDone.{room, received-done}

@@ -14,7 +14,7 @@ use Rattle.rules.specs.Results.{send}
 use Rattle.slots.specs.Slots.{first_slots}
 use Rattle.slots.proofs.Kept.{listed_order}
 use Rattle.settling.specs.Record.{left, stage}
-use Rattle.parts.specs.Record.{Parts, parts, record_of}
+use Rattle.lent.specs.Record.{Parts, parts, record_of}
 use Rattle.parts.proofs.Answering.{refused_in_place, valid_kept}
 use Rattle.sending.specs.Checks.{send_checks_on}
 use Rattle.sending.proofs.SendDone.{Passed, send_checks-on, checked, frame_fits, length-written, buffer-written, frame_reads, stage_handed, sent-done}

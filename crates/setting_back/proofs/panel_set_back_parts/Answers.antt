@@ -2,7 +2,7 @@
 use mathlib.Core.Path.{◌≡◌, sym, ◌∙◌}
 use native.Mathlib.Omega.{arith}
 use Rattle.rules.specs.Refusals.{broken}
-use Rattle.parts.specs.Record.{Parts, parts, record_of}
+use Rattle.lent.specs.Record.{Parts, parts, record_of}
 use Rattle.setting_back.proofs.SettingBack.{set_back_refused, set_back_done}
 use Rattle.setting_back.proofs.panel_set_back_parts.Goals as goal
 

@@ -8,7 +8,7 @@ use Rattle.frame.specs.Frame.{narrow, wide, longest}
 use Rattle.frame.specs.Reading.{refusal}
 use Rattle.visits.specs.Visiting.{trace}
 use Rattle.visits.proofs.Tracing.{trace_alike}
-use Rattle.parts.specs.Record.{parts, record_of}
+use Rattle.lent.specs.Record.{parts, record_of}
 use Rattle.checking.specs.Checks.{NotNarrow}
 use Rattle.widening.proofs.Widened.{wide_fits, widened, picks_wide, widened_reads, narrow_reads, widened_message, widened_part, wide_or_not}
 use Rattle.tracing.proofs.panel_trace_parts.Goals as goal

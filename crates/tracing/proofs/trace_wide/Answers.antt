@@ -8,7 +8,7 @@ use Rattle.rules.specs.Refusals.{broken, message_checks}
 use Rattle.rules.proofs.Checks.{broken-false}
 use Rattle.visits.specs.Visiting.{visits}
 use Rattle.choosing.specs.Choice.{asking}
-use Rattle.parts.specs.Record.{Parts, parts, record_of}
+use Rattle.lent.specs.Record.{Parts, parts, record_of}
 use Rattle.parts.proofs.Answering.{valid_kept}
 use Rattle.checking.proofs.MessageChecks.{checks-asking}
 use Rattle.checking.proofs.Checking.{wide_reads, wide-message}

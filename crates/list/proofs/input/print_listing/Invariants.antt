@@ -1,5 +1,5 @@
 use Rattle.std.proofs.Common.{length}
-use Rattle.parts.specs.Record.{parts, record_of}
+use Rattle.lent.specs.Record.{parts, record_of}
 use Rattle.listing.specs.Step.{standing}
 use Rattle.listing_parts.proofs.Filling.{bytes_left}
 use Rattle.list.proofs.Printing.{Printing}

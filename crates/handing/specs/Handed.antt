@@ -1,5 +1,5 @@
 -- A message that is handed, in the parts of the record and in the output.
-use Rattle.std.specs.Prelude.{ℕ, ◌≡◌, ◌+◌, ◌*◌, List, max, get_or}
+use Rattle.std.specs.Prelude.{ℕ, ◌≡◌, ◌+◌, ◌*◌, List, length, max, get_or}
 use Rattle.numbers.specs.Buffer.{over}
 use Rattle.frame.specs.Message.{Message}
 use Rattle.rules.specs.Sizes.{log_record_length}
@@ -15,6 +15,7 @@ with_handed k high marks barrier floor = record k { high = high; marks = marks; 
 pub record InOutput (m : Message) (before after : Log) : Type 0 where
   pub output : after.output.now ≡ over before.output.now (before.count * log_record_length) (log_record m)
   pub count : after.count ≡ before.count + 1
+  pub long : length after.output.now ≡ length before.output.now
 
 -- the message is in the log, and high, its source's mark and its source's barrier entry are at least its deadline
 pub record IsLogged (m : Message) (p : Known) (before : Log) (q : Known) (after : Log) : Type 0 where

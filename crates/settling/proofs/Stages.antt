@@ -23,8 +23,10 @@ use Rattle.choosing.specs.declared.First.{First}
 use Rattle.choosing.proofs.Choosing.{first_in-none, first_in-some}
 use Rattle.choosing.proofs.Holding.{length_listed, held_at}
 use Rattle.handing.proofs.LogRecord.{length-readable}
-use Rattle.settling.specs.Record.{Stage, stage, panel_at, output_place, Leaves, Settles, Logged}
-use Rattle.settling.specs.declared.Settling.{Settling}
+use Rattle.slots.specs.declared.Places.{Places}
+use Rattle.lent.specs.Record.{Known}
+use Rattle.handing.specs.Handed.{with_handed}
+use Rattle.settling.specs.Record.{Settling, Stage, stage, stage_at, panel_at, output_place, Leaves, Settles, Logged}
 use Rattle.settling.proofs.Leaving.{take_leaves, listed_leaves, held-without}
 
 -- ---- one is handed
@@ -46,9 +48,13 @@ pub record HandedAt (slots : List ℕ) (place : ℕ) (before after : Stage) : Ty
   pub listed : Listed slots after.left.waiting after.places
   pub long : length after.places ≡ length before.places
 
-module _ (slots : List ℕ) (place : ℕ) (s : Settling) (places rest marks barrier output : List ℕ) (m : Message)
+module _ (slots : List ℕ) (place : ℕ) (s : Settling) (places marks barrier output : List ℕ) (left : Places) (m : Message)
     (listed : Listed slots s.waiting places) (long : length places ≡ 32)
-    (lt : place < s.waiting) (is : message_in width (frame_at slots (get_or places place 0)) ≡ m) (leaves : Leaves s.waiting place places rest) where
+    (lt : place < s.waiting) (is : message_in width (frame_at slots (get_or places place 0)) ≡ m)
+    (leaves : Leaves place (record { count = s.waiting; slots = places }) left) where
+  abbrev rest : List ℕ
+  rest = left.slots
+
   abbrev before : Stage
   before = stage s places marks barrier output
 
@@ -80,10 +86,17 @@ module _ (slots : List ℕ) (place : ℕ) (s : Settling) (places rest marks barr
         long = leaves.long;
       }
 
-  pub handed_at : (high floor : ℕ) (marks_after barrier_after output_after : List ℕ) → high ≡ max s.high m.deadline → marks_after ≡ raise marks m
-      → barrier_after ≡ raise (shortened barrier m.entries) m → output_after ≡ over output (output_place s) (log_record m) → floor ≡ risen
-      → HandedAt slots place before (stage (one_handed s high floor) rest marks_after barrier_after output_after)
-  handed_at high floor marks_after barrier_after output_after e em eb eo ef = rw (e, em, eb, eo, ef) handed_one
+  -- what the panel knew
+  abbrev knew : Known
+  knew = record { own = s.own; time = s.time; high = s.high; marks = marks; barrier = barrier; floor = s.floor }
+
+  pub handed_at : (knows : Known) (handed : ℕ) (written : List ℕ)
+      → knows ≡ with_handed knew (max s.high m.deadline) (raise marks m) (raise (shortened barrier m.entries) m) risen
+      → handed ≡ s.handed + 1 → written ≡ over output (output_place s) (log_record m)
+      → HandedAt slots place before (stage_at knows left.count left.slots handed written)
+  handed_at knows handed written ek eh eo =
+      let count : left.count ≡ s.waiting - 1 = omega (arith, leaves.one) in
+      rw (ek, eh, eo, count) handed_one
 
 -- ---- a step of settling
 

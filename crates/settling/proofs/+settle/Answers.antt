@@ -1,24 +1,28 @@
 -- `settling::settle` meets its contract, by recursion on the number of those waiting. Assumes nothing.
-use Rattle.std.proofs.Common.{sym, ap, ◌∙◌, arith}
+use Rattle.std.proofs.Common.{refl, sym, ap, ◌∙◌, arith}
 use borrow.Author.Tests.{not-true, not-false}
 use Rattle.frame.specs.Reading.{message_in}
 use Rattle.rules.specs.Sizes.{width}
 use Rattle.slots.proofs.Framed.{reads_fits}
 use Rattle.slots.specs.Slots.{frame_at}
-use Rattle.settling.specs.Record.{left, stage}
+use Rattle.lent.specs.Record.{known}
+use Rattle.settling.specs.Record.{stage_of}
 use Rattle.settling.proofs.Stages.{handed_at, settles_none, found_below, settles_some}
 use Rattle.settling.proofs.+settle.Goals as goal
 
 pub returns-then-not-next : goal.returns-then-not-next
 returns-then-not-next t c =
     let a = c.args in
-    let from = stage (left a.own a.time a.high.now a.waiting a.handed.now a.floor.now) a.places.now a.marks.now a.barrier.now a.output.now in
-    settles_none a.slots.now from c.requires.slots.1 c.requires.slots.2 c.choice-next.result c.choice-next.ensures (not-true _ c.if-not-next.true)
+    let from = stage_of a.state.now a.list.now a.log.now in
+    record {
+      same = ((refl, refl, refl, refl), refl);
+      settled = settles_none a.slots.now from c.requires.slots.1 c.requires.slots.2 c.choice-next.result c.choice-next.ensures (not-true _ c.if-not-next.true);
+    }
 
 pub leave-slot-requires : goal.leave-slot-requires
 leave-slot-requires t c =
     let a = c.args in
-    let from = stage (left a.own a.time a.high.now a.waiting a.handed.now a.floor.now) a.places.now a.marks.now a.barrier.now a.output.now in (
+    let from = stage_of a.state.now a.list.now a.log.now in (
       c.requires.slots.2,
       c.requires.slots.1.few,
       found_below a.slots.now from c.requires.slots.1 c.requires.slots.2 c.choice-next.result c.choice-next.ensures (not-false _ c.if-not-next.false),
@@ -27,7 +31,7 @@ leave-slot-requires t c =
 pub kept_frame-requires : goal.kept_frame-requires
 kept_frame-requires t c =
     let a = c.args in
-    let from = stage (left a.own a.time a.high.now a.waiting a.handed.now a.floor.now) a.places.now a.marks.now a.barrier.now a.output.now in
+    let from = stage_of a.state.now a.list.now a.log.now in
     let below = found_below a.slots.now from c.requires.slots.1 c.requires.slots.2 c.choice-next.result c.choice-next.ensures (not-false _ c.if-not-next.false) in
     let listed = c.requires.slots.1 in
     rw c.leave-slot.ensures.0 (c.requires.slots.0, listed.below _ below, reads_fits _ _ (listed.reads _ below))
@@ -35,51 +39,41 @@ kept_frame-requires t c =
 pub hand-requires : goal.hand-requires
 hand-requires t c =
     let a = c.args in
-    let from = stage (left a.own a.time a.high.now a.waiting a.handed.now a.floor.now) a.places.now a.marks.now a.barrier.now a.output.now in
+    let from = stage_of a.state.now a.list.now a.log.now in
     let below = found_below a.slots.now from c.requires.slots.1 c.requires.slots.2 c.choice-next.result c.choice-next.ensures (not-false _ c.if-not-next.false) in
     (rw (c.kept_frame.ensures, c.leave-slot.ensures.0) (c.requires.slots.1.reads _ below), omega (arith, below, c.requires.room))
-
-pub overflow_sub-waiting : goal.overflow_sub-waiting
-overflow_sub-waiting t c =
-    let a = c.args in
-    let from = stage (left a.own a.time a.high.now a.waiting a.handed.now a.floor.now) a.places.now a.marks.now a.barrier.now a.output.now in
-    let below = found_below a.slots.now from c.requires.slots.1 c.requires.slots.2 c.choice-next.result c.choice-next.ensures (not-false _ c.if-not-next.false) in
-    omega (arith, below)
 
 pub settle-requires : goal.settle-requires
 settle-requires t c =
     let a = c.args in
-    let begun = left a.own a.time a.high.now a.waiting a.handed.now a.floor.now in
-    let from = stage begun a.places.now a.marks.now a.barrier.now a.output.now in
+    let from = stage_of a.state.now a.list.now a.log.now in
     let below = found_below a.slots.now from c.requires.slots.1 c.requires.slots.2 c.choice-next.result c.choice-next.ensures (not-false _ c.if-not-next.false) in
     let is = ap (message_in width) (sym (c.kept_frame.ensures ∙ ap (frame_at a.slots.now) c.leave-slot.ensures.0)) in
     -- the message in the slot that has left the list was handed
-    let handed = handed_at a.slots.now c.choice-next.result.place begun a.places.now c.leave-slot.new.places a.marks.now a.barrier.now
-    a.output.now (message_in width c.kept_frame.result.now) c.requires.slots.1 c.requires.slots.2 below is c.leave-slot.ensures.1
-    c.hand.result _ _ _ _ c.hand.ensures.0 c.hand.ensures.1 c.hand.ensures.2 c.hand.ensures.3
-    c.hand.ensures.4 in (
-      omega (arith, c.decreases, below),
+    let one = c.hand.ensures.handed in
+    let handed = handed_at a.slots.now c.choice-next.result.place from.left from.places from.marks from.barrier from.output c.leave-slot.new.list
+    (message_in width c.kept_frame.result.now) c.requires.slots.1 c.requires.slots.2 below is c.leave-slot.ensures.1
+    (known c.hand.new.state) c.hand.new.log.count c.hand.new.log.output.now one.known one.log.count one.log.output in (
+      omega (arith, c.decreases, below, c.leave-slot.ensures.1.one),
       (
         (c.requires.slots.0, handed.listed, c.leave-slot.ensures.1.long ∙ c.requires.slots.2),
-        omega (arith, c.requires.room, below, c.hand.auto.output),
+        omega (arith, c.requires.room, below, c.leave-slot.ensures.1.one, one.log.count, one.log.long),
       ),
     )
 
-pub returns : goal.returns
-returns t c =
+pub returns-clause-settled : goal.returns-clause-settled
+returns-clause-settled t c =
     let a = c.args in
-    let begun = left a.own a.time a.high.now a.waiting a.handed.now a.floor.now in
-    let from = stage begun a.places.now a.marks.now a.barrier.now a.output.now in
+    let from = stage_of a.state.now a.list.now a.log.now in
     let found = not-false _ c.if-not-next.false in
     let below = found_below a.slots.now from c.requires.slots.1 c.requires.slots.2 c.choice-next.result c.choice-next.ensures found in
     let is = ap (message_in width) (sym (c.kept_frame.ensures ∙ ap (frame_at a.slots.now) c.leave-slot.ensures.0)) in
-    let handed = handed_at a.slots.now c.choice-next.result.place begun a.places.now c.leave-slot.new.places a.marks.now a.barrier.now
-    a.output.now (message_in width c.kept_frame.result.now) c.requires.slots.1 c.requires.slots.2 below is c.leave-slot.ensures.1
-    c.hand.result _ _ _ _ c.hand.ensures.0 c.hand.ensures.1 c.hand.ensures.2 c.hand.ensures.3
-    c.hand.ensures.4 in
-    let rest = c.settle.new in
+    let one = c.hand.ensures.handed in
+    let handed = handed_at a.slots.now c.choice-next.result.place from.left from.places from.marks from.barrier from.output c.leave-slot.new.list
+    (message_in width c.kept_frame.result.now) c.requires.slots.1 c.requires.slots.2 below is c.leave-slot.ensures.1
+    (known c.hand.new.state) c.hand.new.log.count c.hand.new.log.output.now one.known one.log.count one.log.output in
     settles_some a.slots.now from c.requires.slots.1 c.requires.slots.2 c.choice-next.result c.choice-next.ensures found
     (omega (arith, c.requires.room)) _
-    (stage (left a.own a.time rest.high c.settle.result rest.handed rest.floor) rest.places rest.marks rest.barrier rest.output)
+    (stage_of c.settle.new.state c.settle.new.list c.settle.new.log)
     handed
-    c.settle.ensures
+    c.settle.ensures.settled

@@ -2,4 +2,4 @@
 use Rattle.settling.proofs.+settle.Given as goal
 
 abbrev pub decreases-settle : goal.decreases-settle
-decreases-settle l = l.waiting
+decreases-settle l = l.list.now.count

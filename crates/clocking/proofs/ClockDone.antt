@@ -14,7 +14,7 @@ use Rattle.rules.specs.Refusals.{broken, clock_checks}
 use Rattle.rules.specs.Results.{Promised, clock}
 use Rattle.slots.specs.Alive.{Alive}
 use Rattle.slots.specs.declared.Places.{Places}
-use Rattle.settling.specs.declared.Settling.{Settling}
+use Rattle.settling.specs.Record.{Settling}
 use Rattle.settling.specs.Record.{Stage, stage, panel_at}
 use Rattle.lent.specs.Record.{Parts, record_of}
 use Rattle.parts.specs.Record.{SettlesSlots}

@@ -3,7 +3,7 @@ use Rattle.std.specs.Prelude.{ℕ, List}
 use Rattle.rules.specs.Panel.{new_make}
 use Rattle.rules.specs.Results.{Call, Result}
 use Rattle.rules.specs.Lists.{Made}
-use Rattle.parts.specs.declared.Answer.{Answer}
+use Rattle.parts.specs.declared.answer.Answer.{Answer}
 use Rattle.lent.specs.Record.{Parts, record_of}
 use Rattle.parts.specs.Record.{answered}
 

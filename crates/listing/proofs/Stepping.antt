@@ -12,7 +12,7 @@ use Rattle.rules.specs.Sizes.{output_length}
 use Rattle.rules.specs.Panel.{Panel}
 use Rattle.rules.specs.Results.{Result, receive, Promised}
 use Rattle.rules.proofs.Theorems.{count_33}
-use Rattle.parts.specs.declared.Answer.{Answer}
+use Rattle.parts.specs.declared.answer.Answer.{Answer}
 use Rattle.parts.specs.Record.{answered}
 use Rattle.text.specs.Text.{ascii}
 use Rattle.text.specs.Put.{Put, Room}

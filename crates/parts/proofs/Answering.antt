@@ -19,7 +19,7 @@ use Rattle.slots.proofs.Kept.{kept_readable}
 use Rattle.slot_moves.specs.Moves.{Gathered}
 use Rattle.slot_moves.proofs.Kept.{held_gathered}
 use Rattle.settling.specs.Record.{Stage, stage, panel_at, output_place, Settles}
-use Rattle.settling.specs.declared.Settling.{Settling}
+use Rattle.settling.specs.Record.{Settling}
 use Rattle.lent.specs.Record.{Parts, parts, record_of}
 use Rattle.parts.specs.Record.{PromisedInPlace, SettlesSlots}
 

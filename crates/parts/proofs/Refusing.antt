@@ -1,9 +1,14 @@
 -- Laws of `broken`, test by test. Assumes nothing.
-use Rattle.std.proofs.Common.{◌≡◌, ℕ, ◌+◌, ◌<◌, ◌≤◌, Bool, true, false, not, ◌&&◌, ltb, List, [], ◌∷◌, ◌++◌, length, get_or, take, sym, refl, ap, ◌∙◌, add-one, take-suc, le-ltb, lt-ltb}
+use Rattle.std.proofs.Common.{◌≡◌, ℕ, ◌+◌, ◌<◌, ◌≤◌, arith, Bool, true, false, not, ◌&&◌, ltb, List, [], ◌∷◌, ◌++◌, length, get_or, take, sym, refl, ap, ◌∙◌, add-one, take-suc, le-ltb, lt-ltb}
 use mathlib.Core.Bool.{or-true, and-true, and_assoc}
 use Rattle.frame.specs.Readable.{each_below}
+use Rattle.frame.proofs.Conjunction.{and_both}
+use Rattle.frame.proofs.EachNumber.{each_below-lt}
 use Rattle.rules.specs.Panel.{Panel}
 use Rattle.rules.specs.Refusals.{broken, each_readable}
+use Rattle.slots.specs.Slots.{held, first_slots}
+use Rattle.slots.proofs.Held.{length-first_slots}
+use Rattle.lent.specs.Record.{Parts, record_of}
 
 module _ (p : Panel) where
   pub broken_own : 63 < p.own → broken p ≡ true
@@ -46,3 +51,18 @@ each_below-snoc limit (first ∷ ns) n =
 pub each_below_more : (limit : ℕ) (ns : List ℕ) (i : ℕ) → i < length ns
     → each_below limit (take (i + 1) ns) ≡ (each_below limit (take i ns) && ltb (get_or ns i 0) limit)
 each_below_more limit ns i l = rw (add-one, take-suc ns i 0 l) (each_below-snoc limit (take i ns) (get_or ns i 0))
+
+-- a number that is above the limit
+pub one_above : (limit : ℕ) (ns : List ℕ) (i : ℕ) → limit + 1 ≤ get_or ns i 0 → false ≡ each_below (limit + 1) ns
+one_above limit ns i above = go (each_below (limit + 1) ns) refl
+  where
+    go : (b : Bool) → each_below (limit + 1) ns ≡ b → false ≡ b
+    go true e = absurd (omega (arith, each_below-lt (limit + 1) ns (omega arith) e i))
+    go false e = refl
+
+-- past own number, marks and barrier the waiting messages decide
+pub waiting_decides : (p : Parts) (within : Bool) → p.own ≤ 63 → within ≡ (each_below (p.high + 1) p.marks && each_below (p.high + 1) p.barrier)
+    → within ≡ true → p.count ≤ 32 → not (each_readable (held p.slots (first_slots p.count))) ≡ broken (record_of p)
+waiting_decides p within own is all few =
+    let (marks, barrier) = and_both _ _ (sym is ∙ all) in
+    sym (broken_waiting (record_of p) own marks barrier (omega (arith, few, length-first_slots p.slots p.count)))

@@ -1,3 +1,4 @@
--- The record in its parts, what a call in place promises, and what settling the slots ensures.
+-- What the calls answer, what a call in place promises, and what settling the slots ensures.
+pub mod Answers
 pub mod Record
 pub mod Joined

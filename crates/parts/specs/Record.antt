@@ -1,43 +1,11 @@
--- The record in the parts that it is lent in, what a call in place promises of them, and what settling the slots ensures.
+-- What a call in place promises of the parts of a record, and what settling the slots ensures.
 use Rattle.std.specs.Prelude.{◌≡◌, ℕ, List, ◌≢◌}
-use Rattle.rules.specs.Panel.{Panel as Record, new_make}
+use Rattle.rules.specs.Panel.{Panel as Record}
 use Rattle.rules.specs.Settling.{settle}
 use Rattle.rules.specs.Results.{Call, Result, Promised}
-use Rattle.slots.specs.Slots.{held, first_slots}
+use Rattle.lent.specs.Record.{Parts, parts, record_of}
 use Rattle.settling.specs.Record.{Stage, panel_at, Logged}
-use Rattle.parts.specs.declared.Answer.{Answer}
-
--- ---- the record
-
--- The parts of a record, in the order in which every call has them: four numbers, marks, barrier, the slots, whose first `count` hold the
--- waiting messages, and the floor.
-pub record Parts : Type 0 where
-  pub own : ℕ
-  pub time : ℕ
-  pub high : ℕ
-  pub count : ℕ
-  pub marks : List ℕ
-  pub barrier : List ℕ
-  pub slots : List ℕ
-  pub floor : ℕ
-
-abbrev pub parts : ℕ → ℕ → ℕ → ℕ → List ℕ → List ℕ → List ℕ → ℕ → Parts
-parts own time high count marks barrier slots floor =
-    record { own = own; time = time; high = high; count = count; marks = marks; barrier = barrier; slots = slots; floor = floor }
-
--- the record that the parts hold: the module's panels are of the new make
-abbrev pub record_of : Parts → Record
-record_of p =
-    record {
-      own = p.own;
-      time = p.time;
-      high = p.high;
-      marks = p.marks;
-      barrier = p.barrier;
-      waiting = held p.slots (first_slots p.count);
-      floor = p.floor;
-      make = new_make;
-    }
+use Rattle.parts.specs.declared.answer.Answer.{Answer}
 
 -- ---- the promise
 

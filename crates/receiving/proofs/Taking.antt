@@ -22,7 +22,7 @@ use Rattle.slots.proofs.Kept.{listed_order, held_order}
 use Rattle.numbers.proofs.Ones.{ones_in_le}
 use Rattle.slot_moves.proofs.Kept.{slots_put, held_put, kept_put}
 use Rattle.choosing.specs.Choice.{asking}
-use Rattle.settling.specs.declared.Settling.{Settling}
+use Rattle.settling.specs.Record.{Settling}
 use Rattle.settling.specs.Record.{Stage, stage, panel_at, output_place}
 use Rattle.settling.proofs.Stages.{logged_none}
 use Rattle.receiving.specs.Steps.{taking, handed_at_once, Taken}

@@ -1,6 +1,6 @@
 -- The answer of a set-back call: a number alone.
 use Rattle.std.specs.Prelude.{ℕ}
-use Rattle.parts.specs.declared.Answer.{Answer}
+use Rattle.parts.specs.declared.answer.Answer.{Answer}
 
 -- it counts no log records, and no frame was written
 abbrev pub answer_of : ℕ → Answer

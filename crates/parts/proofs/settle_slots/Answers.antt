@@ -1,12 +1,11 @@
 -- `parts::settle_slots` meets its contract. Assumes nothing.
 use Rattle.std.proofs.Common.{◌≡◌, length, rules}
-use Rattle.settling.specs.Record.{left}
+use Rattle.settling.specs.Record.{stage_of}
 use Rattle.parts.proofs.Answering.{settles_slots}
 use Rattle.parts.proofs.settle_slots.Goals as goal
 
-pub returns : goal.returns
-returns c =
-    let still = c.settle-still in
-    let long : length c.args.places ≡ 32 = search rules in
-    settles_slots _ _ (left c.args.own c.args.time still.new.high still.result still.new.handed still.new.floor) _ _ _ _ _
-    still.ensures long c.gather.ensures
+pub returns-clause-settled : goal.returns-clause-settled
+returns-clause-settled c =
+    let long : length c.args.places.slots ≡ 32 = search rules in
+    let left = stage_of c.settle.new.state c.settle.new.list c.settle.new.log in
+    settles_slots _ _ left.left _ _ _ _ _ c.settle.ensures.settled long c.gather.ensures

@@ -1,5 +1,5 @@
 -- Laws of a width: its product with a count, and which one the version of bytes picks. Assumes nothing.
-use mathlib.Core.Path.{◌≡◌}
+use mathlib.Core.Path.{◌≡◌, refl}
 use mathlib.Core.Bool.{Bool, true, false, cond}
 use mathlib.Core.List.{List}
 use Prim.Native.Nat.{ℕ, zero, suc, ◌+◌, ◌-◌, ◌*◌, ◌≤◌, ◌<◌}
@@ -8,7 +8,9 @@ use native.Mathlib.Numerals.{sub-one}
 use native.Mathlib.Omega.{arith}
 use lib.Dec.{eqb}
 use borrow.Author.Tests.{eq-eqb, ne_eqb}
-use Rattle.frame.specs.Frame.{narrow, wide, version_of}
+use Rattle.frame.specs.declared.version.Version.{Version}
+use Rattle.frame.specs.declared.version.Version.TheVariants.{One, Two}
+use Rattle.frame.specs.Frame.{narrow, wide, version_of, Width, width_of}
 use Rattle.frame.specs.Reading.{version_in, width_in}
 
 -- one number more in so many bytes each
@@ -19,6 +21,11 @@ mul_next width (suc count) h = rw (sub-one, mul-suc)
 -- the bytes of all entries
 pub mul_few : (width count : ℕ) → width ≤ 8 → count ≤ 64 → width * count ≤ 512
 mul_few width count h few = mul-le-mul h few
+
+-- a version has such a width
+pub width_of_is : (version : Version) → Width (width_of version)
+width_of_is One = (omega arith, omega arith, refl)
+width_of_is Two = (omega arith, omega arith, refl)
 
 module _ (bs : List ℕ) where
   pub width_in_wide : version_in bs ≡ version_of wide → width_in bs ≡ wide

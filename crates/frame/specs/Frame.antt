@@ -2,6 +2,8 @@
 use Rattle.std.specs.Prelude.{ℕ, ◌+◌, ◌*◌, ◌/◌, ◌%◌, ◌≤◌, ◌≡◌, length}
 use mathlib.Core.List.{List, [], ◌∷◌, flatten}
 use Rattle.numbers.specs.Numbers.{big_endian, big_endians}
+use Rattle.frame.specs.declared.version.Version.{Version}
+use Rattle.frame.specs.declared.version.Version.TheVariants.{One, Two}
 use Rattle.frame.specs.Message.{Message, mask_of, present}
 
 -- mark, hexadecimal 44 52 59
@@ -22,6 +24,11 @@ version_of width = width / 4
 -- a width that frames can have: 4 or 8 bytes
 abbrev pub Width : ℕ → Type 0
 Width width = (narrow ≤ width) × (width ≤ wide) × (width % 4 ≡ 0)
+
+-- the width of a version
+abbrev pub width_of : Version → ℕ
+width_of One = narrow
+width_of Two = wide
 
 -- the fields, in order
 unfoldable pub fields : ℕ → Message → List (List ℕ)

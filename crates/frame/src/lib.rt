@@ -1,18 +1,18 @@
 // Frames of versions 1 and 2: what a frame is, and its fields, each read at its place. What is promised
-// stands in specs/, in document 01's order. An internal crate: the functions take the width of a
-// deadline and of an entry in bytes, 4 in version 1, 8 in version 2. Preconditions: such a width, and
-// as many bytes as are read.
+// stands in specs/, in document 01's order. An internal crate. Precondition: as many bytes as are read.
 #![tactic(auto)]
 
 mod refusal;
+mod version;
 
 ghost use Rattle.std.specs.Prelude.{◌≡◌, ◌+◌, ◌≤◌, length};
 ghost use Rattle.numbers.specs.Numbers.{number_at};
-ghost use Rattle.frame.specs.Frame.{Width};
+ghost use Rattle.frame.specs.Frame.{width_of};
 ghost use Rattle.frame.specs.Reading.{width_in, deadline_in, count_in};
 
 use numbers::number_at;
 pub use refusal::{Refusal, number_in};
+pub use version::Version;
 
 // The mark, and the number that it makes with version 2 behind it, in five bytes.
 pub const MARK: u64 = 0x445259;
@@ -46,39 +46,40 @@ pub const SHORTEST: usize = BARE + WIDTH;
 pub const BUFFER: usize = 567;
 
 // The deadline: of the eight bytes at its place, all in version 2, and the high four in version 1.
-pub fn deadline_in(frame: &[u8], width: usize) -> u64
-    requires { Width width × (14 ≤ length frame.now) }
-    ensures { result ≡ deadline_in width frame.now }
+pub fn deadline_in(frame: &[u8], version: Version) -> u64
+    requires { 14 ≤ length frame.now }
+    ensures { result ≡ deadline_in (width_of version) frame.now }
 {
-    number_at(frame, DEADLINE_AT, 8) >> (64 - 8 * width)
+    number_at(frame, DEADLINE_AT, 8) >> (64 - 8 * version.width())
 }
 
-// The entry at a place.
-pub fn entry_at(frame: &[u8], at: usize, width: usize) -> u64
-    requires { Width width × (at + width ≤ length frame.now) }
-    ensures { result ≡ number_at frame.now at width }
+// The entry at a place. (For speed each width stands in a call of its own: of each the compiler makes
+// one load.)
+pub fn entry_at(frame: &[u8], at: usize, version: Version) -> u64
+    requires { at + width_of version ≤ length frame.now }
+    ensures { result ≡ number_at frame.now at (width_of version) }
 {
-    if width == NARROW {
-        return number_at(frame, at, NARROW);
+    match version {
+        Version::One => number_at(frame, at, NARROW),
+        Version::Two => number_at(frame, at, WIDTH),
     }
-    number_at(frame, at, WIDTH)
 }
 
 // The number of entries: the count of ones in the mask.
-pub fn entry_count(frame: &[u8], width: usize) -> usize
-    requires { Width width × (14 + width ≤ length frame.now) }
-    ensures { (result ≡ count_in width frame.now) × (result ≤ 64) }
+pub fn entry_count(frame: &[u8], version: Version) -> usize
+    requires { 14 + width_of version ≤ length frame.now }
+    ensures { (result ≡ count_in (width_of version) frame.now) × (result ≤ 64) }
 {
-    u64::count_ones(number_at(frame, DEADLINE_AT + width, 8)) as usize
+    u64::count_ones(number_at(frame, DEADLINE_AT + version.width(), 8)) as usize
 }
 
-// The width that the version picks.
-pub fn width_in(frame: &[u8]) -> usize
+// The version whose width is picked.
+pub fn version_in(frame: &[u8]) -> Version
     requires { 5 ≤ length frame.now }
-    ensures { (result ≡ width_in frame.now) × Width result }
+    ensures { width_of result ≡ width_in frame.now }
 {
     if number_at(frame, 3, 2) == 2 {
-        return WIDTH;
+        return Version::Two;
     }
-    NARROW
+    Version::One
 }

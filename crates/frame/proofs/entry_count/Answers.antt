@@ -1,8 +1,8 @@
 -- `frame::entry_count` meets its contract: the count of ones of the 64 bits that were read is that of the definition. Assumes nothing.
-use mathlib.Core.Path.{sym, ap, ◌∙◌}
+use mathlib.Core.Path.{sym, ◌∙◌}
 use Prim.Native.Nat.{◌≤◌}
 use native.Mathlib.Omega.{arith}
-use lib.Count.{ones_in, ones, ones-le}
+use lib.Count.{ones, ones-le}
 use Rattle.frame.proofs.Entries.{ones_in_ones}
 use Rattle.frame.proofs.entry_count.Goals as goal
 
@@ -13,4 +13,4 @@ pub overflow_cast-result : goal.overflow_cast-result
 overflow_cast-result c = omega (arith, few c)
 
 pub returns : goal.returns
-returns c = (sym (ones_in_ones 64 c.number_at.result c.number_at.ensures.1) ∙ ap (ones_in 64) c.number_at.ensures.0, few c)
+returns c = (sym (ones_in_ones 64 c.number_at.result c.number_at.ensures.1) ∙ rw (c.number_at.ensures.0, c.width.ensures), few c)

@@ -78,7 +78,7 @@ pub fn version_in(frame: &[u8]) -> Version
     requires { 5 ≤ length frame.now }
     ensures { width_of result ≡ width_in frame.now }
 {
-    if number_at(frame, 3, 2) == 2 {
+    if number_at(frame, 3, 2) == Version::Two.number() {
         return Version::Two;
     }
     Version::One

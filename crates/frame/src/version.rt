@@ -1,6 +1,6 @@
 // The versions of a frame.
 ghost use Rattle.std.specs.Prelude.{◌≡◌};
-ghost use Rattle.frame.specs.Frame.{width_of};
+ghost use Rattle.frame.specs.Frame.{version_of, width_of};
 
 use crate::{NARROW, WIDTH};
 
@@ -19,5 +19,12 @@ impl Version {
             Version::One => NARROW,
             Version::Two => WIDTH,
         }
+    }
+
+    // Its number, as a frame has it.
+    pub fn number(self) -> u64
+        ensures { result ≡ version_of (width_of self) }
+    {
+        self as u64
     }
 }

@@ -1,110 +1,114 @@
-// The frame check, for C too (`frame_check_c` exports it): 0, or the refusal number of the reading. It
-// goes through the checks in the order of their table, in one body for both versions. Each public
+// The frame check, for C too (`frame_check_c` exports it): the refusal of the reading, if there is one.
+// It goes through the checks in the order of their table, in one body for both versions. Each public
 // function accepts any input.
 #![tactic(auto)]
 
 ghost use Rattle.std.specs.Prelude.{◌≡◌, ◌+◌, ◌*◌, ◌<◌, ◌≤◌, length, take, ◌==◌};
 ghost use Rattle.numbers.specs.Numbers.{numbers_at};
-ghost use Rattle.frame.specs.Frame.{narrow, Width};
-ghost use Rattle.frame.specs.Refusal.{first_of};
+ghost use Rattle.frame.specs.Frame.{narrow, width_of};
+ghost use Rattle.frame.specs.Refusal.{first_of, number_in};
 ghost use Rattle.frame.specs.Reading.{each_earlier, checks, refusal, refusal_of};
 
 use frame::{
-    BARE, HEAD, MARK, NARROW, SHORTEST_NARROW, deadline_in, entry_at, entry_count, width_in,
+    BARE, HEAD, MARK, Refusal, SHORTEST_NARROW, Version, deadline_in, entry_at, entry_count,
+    number_in, version_in,
 };
 use numbers::number_at;
 use std::num::wrapping_sub_u64;
 
 // The first six checks: length, mark, version, the length of that version, source, deadline.
 #[tactic(auto, using(numbers::proofs::NumberAt::number_at_one), unfolding(frame::specs::Reading::checks, frame::specs::Reading::mark_in, frame::specs::Refusal::first_of))]
-fn head_check(frame: &[u8], width: usize) -> u8
-    requires { Width width }
-    ensures { result ≡ first_of (take 6 (checks width frame.now)) }
+fn head_check(frame: &[u8], version: Version) -> Result<(), Refusal>
+    ensures { number_in result ≡ first_of (take 6 (checks (width_of version) frame.now)) }
 {
     if frame.len() < SHORTEST_NARROW {
-        return 1; // fewer than 19 bytes
+        return Err(Refusal::FrameShort); // fewer than 19 bytes
     }
     if number_at(frame, 0, 3) != MARK {
-        return 2; // the mark
+        return Err(Refusal::FrameMark);
     }
-    if number_at(frame, 3, 2) != (width / 4) as u64 {
-        return 3; // the version
+    if number_at(frame, 3, 2) != version.number() {
+        return Err(Refusal::FrameVersion);
     }
-    if frame.len() < BARE + width {
-        return 1; // fewer bytes than a frame of that version has
+    if frame.len() < BARE + version.width() {
+        return Err(Refusal::FrameShort); // fewer bytes than a frame of that version has
     }
     if 63 < frame[5] {
-        return 4; // the source
+        return Err(Refusal::FrameSource);
     }
-    if deadline_in(frame, width) == 0 {
-        return 5; // deadline 0
+    if deadline_in(frame, version) == 0 {
+        return Err(Refusal::FrameDeadline);
     }
-    0
+    Ok(())
 }
 
 // Whether each of the entries is at least 1 and below the deadline. (For speed one test serves for
-// both: less 1, an entry of 0 wraps to the largest number.)
-fn each_earlier(frame: &[u8], width: usize, count: usize, deadline: u64) -> bool
-    requires { Width width × (14 + width + width * count ≤ length frame.now) × (0 < deadline) }
-    ensures { result ≡ each_earlier deadline (numbers_at frame.now (14 + width) width count) }
+// both: less 1, an entry of 0 wraps to the largest number. And the place of an entry is that of the
+// one before it and the width: to multiply at each took two steps more.)
+fn each_earlier(frame: &[u8], version: Version, count: usize, deadline: u64) -> bool
+    requires { (14 + width_of version + width_of version * count ≤ length frame.now) × (0 < deadline) }
+    ensures { result ≡ each_earlier deadline (numbers_at frame.now (14 + width_of version) (width_of version) count) }
 {
     let limit = deadline - 1;
+    let width = version.width();
     let mut at = HEAD + width;
-    let mut left = count;
-    while 0 < left {
-        if limit <= wrapping_sub_u64(entry_at(frame, at, width), 1) {
+    for _ in 0..count {
+        if limit <= wrapping_sub_u64(entry_at(frame, at, version), 1) {
             return false;
         }
         at += width;
-        left -= 1;
     }
     true
 }
 
-// 0, or the refusal number of the reading in the version of that width.
+// The refusal of the reading in that version, if there is one.
 #[tactic(auto, using(numbers::proofs::NumberAt::number_at_one), unfolding(frame::specs::Reading::checks, frame::specs::Refusal::first_of))]
-fn check(frame: &[u8], width: usize) -> u8
-    requires { Width width }
-    ensures { result ≡ refusal width frame.now }
+fn check(frame: &[u8], version: Version) -> Result<(), Refusal>
+    ensures { number_in result ≡ refusal (width_of version) frame.now }
 {
-    let head = head_check(frame, width);
-    if head != 0 {
-        return head;
-    }
-    let count = entry_count(frame, width);
-    let start = BARE + width + width * count;
+    head_check(frame, version)?;
+    let count = entry_count(frame, version);
+    let start = BARE + version.width() + version.width() * count;
     if frame.len() < start {
-        return 1; // too few bytes for the entries and the length byte
+        return Err(Refusal::FrameShort); // too few bytes for the entries and the length byte
     }
-    if !each_earlier(frame, width, count, deadline_in(frame, width)) {
-        return 6; // the entries
+    if !each_earlier(frame, version, count, deadline_in(frame, version)) {
+        return Err(Refusal::FrameEntry);
     }
     let length = frame[start - 1] as usize;
     if 32 < length {
-        return 7; // the payload's length
+        return Err(Refusal::FramePayloadLength);
     }
     if frame.len() < start + length {
-        return 1; // too few bytes for the payload
+        return Err(Refusal::FrameShort); // too few bytes for the payload
     }
     if start + length < frame.len() {
-        return 8; // bytes left over
+        return Err(Refusal::FrameLeftOver);
     }
-    0
+    Ok(())
+}
+
+// The refusal of the reading, if there is one.
+#[tactic(auto, unfolding(frame::specs::Reading::checks, frame::specs::Refusal::first_of))]
+pub fn frame_check(frame: &[u8]) -> Result<(), Refusal>
+    ensures { number_in result ≡ refusal_of frame.now }
+{
+    if frame.len() < SHORTEST_NARROW {
+        return Err(Refusal::FrameShort); // fewer than 19 bytes, and perhaps no version among them
+    }
+    check(frame, version_in(frame))
 }
 
 // 0, or the refusal number of the reading.
-pub fn frame_check(frame: &[u8]) -> u8
+pub fn frame_number(frame: &[u8]) -> u8
     ensures { result ≡ refusal_of frame.now }
 {
-    if frame.len() < SHORTEST_NARROW {
-        return 1; // fewer than 19 bytes, and perhaps no version among them
-    }
-    check(frame, width_in(frame))
+    number_in(frame_check(frame))
 }
 
 // Whether the bytes read as a message in version 1.
 pub fn is_narrow(frame: &[u8]) -> bool
     ensures { result ≡ (refusal narrow frame.now == 0) }
 {
-    check(frame, NARROW) == 0
+    check(frame, Version::One).is_ok()
 }

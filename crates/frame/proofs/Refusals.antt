@@ -1,9 +1,12 @@
 -- Laws of refusals' numbers. Assumes nothing.
+use mathlib.Core.Path.{◌≡◌, refl, sym}
+use mathlib.Core.Bool.{true, false, true≢false}
 use Prim.Native.Nat.{◌<◌}
 use native.Mathlib.Omega.{arith}
+use Rattle.std.specs.Prelude.{Result, Ok, Err, is_err}
 use Rattle.frame.specs.declared.refusal.Refusal.{Refusal}
 use Rattle.frame.specs.declared.refusal.Refusal.TheVariants as refusals
-use Rattle.frame.specs.Refusal.{number_of}
+use Rattle.frame.specs.Refusal.{number_of, number_in}
 
 -- none is 0
 pub number_of_pos : (refusal : Refusal) → 0 < number_of refusal
@@ -26,3 +29,13 @@ number_of_pos refusals.DeadlineTooHigh = omega arith
 number_of_pos refusals.ClockBack = omega arith
 number_of_pos refusals.RecordBroken = omega arith
 number_of_pos refusals.TooFarAhead = omega arith
+
+module _ {A : Type 0} where
+  -- an answer's number is 0 unless it is a refusal
+  pub number_in_ok : (answer : Result A Refusal) → is_err answer ≡ false → number_in answer ≡ 0
+  number_in_ok (Ok a) ok = refl
+  number_in_ok (Err refusal) ok = absurd (true≢false ok)
+
+  pub number_in_err : (answer : Result A Refusal) → is_err answer ≡ true → number_in answer ≡ 0 → ⊥
+  number_in_err (Ok a) err = absurd (true≢false (sym err))
+  number_in_err (Err refusal) err = λ (none : number_of refusal ≡ 0). omega (arith, number_of_pos refusal)

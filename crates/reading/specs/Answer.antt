@@ -1,22 +1,29 @@
 -- What `read` and `payload` answer for a reading.
-use Rattle.std.specs.Prelude.{ℕ, ◌+◌, ◌-◌, ◌≡◌, List, [], length, replicate}
+use Rattle.std.specs.Prelude.{ℕ, ◌+◌, ◌-◌, ◌≡◌, List, [], length, Result, Ok, Err}
 use Rattle.std.specs.Borrow.{Bor}
 use Rattle.reading.specs.declared.Fields.{Fields}
+use Rattle.frame.specs.declared.refusal.Refusal.{Refusal}
 use Rattle.frame.specs.Message.{mask_of}
+use Rattle.frame.specs.Refusal.{number_of}
 use Rattle.frame.specs.Reading.{Reading, message, refused, reading_of}
 
--- the fields; for bytes turned down the number, and every other field 0
-abbrev pub fields_of : Reading → Fields
+-- the fields; for bytes turned down the number
+abbrev pub fields_of : Reading → Result Fields ℕ
 fields_of (message m) =
+    Ok
     record {
-      refusal = 0;
       source = m.source;
       deadline = m.deadline;
       mask = mask_of m.entries;
       entries = m.entries;
       payload_length = length m.payload;
     }
-fields_of (refused n) = record { refusal = n; source = 0; deadline = 0; mask = 0; entries = replicate 64 0; payload_length = 0 }
+fields_of (refused n) = Err n
+
+-- an answer with the number of its refusal
+abbrev pub numbered : {A : Type 0} → Result A Refusal → Result A ℕ
+numbered (Ok a) = Ok a
+numbered (Err refusal) = Err (number_of refusal)
 
 -- the payload; for bytes turned down the empty one
 abbrev pub payload_of : Reading → List ℕ

@@ -15,7 +15,7 @@ loop-panel-preserved c =
     let l = c.loop-panel in
     let more = c.loop-panel-test.true in
     elim c.if-bits-eq1.branch [
-      | then-bits-eq1 w ↦ rw (w.entries-is, w.at-is, w.entry_at.ensures) (filled_odd _ _ _ _ _ l.bits l.at l.panel l.invariant more w.if-bits-eq1.true)
+      | then-bits-eq1 w ↦ rw (w.entries-is, w.at-is, w.entry_at.ensures, c.width-width.ensures) (filled_odd _ _ _ _ _ l.bits l.at l.panel l.invariant more w.if-bits-eq1.true)
       | else-bits-eq1 w ↦ rw (w.entries-is, w.at-is) (filled_even _ _ _ _ _ l.bits l.at l.panel l.invariant more (omega (arith, w.if-bits-eq1.false)))
     ]
 

@@ -1,12 +1,15 @@
 -- Laws of `over`: bytes put into a buffer, one part behind another. Assumes nothing.
 use mathlib.Core.Path.{◌≡◌, refl, sym, ap, ap₂, ◌∙◌}
 use mathlib.Core.List.{List, [], ◌++◌, append_assoc, append-nil}
-use Prim.Native.Nat.{ℕ, ◌+◌, ◌≤◌}
+use Prim.Native.Nat.{ℕ, ◌+◌, ◌-◌, ◌≤◌}
 use native.Mathlib.Nat.{add-zero}
 use native.Mathlib.Omega.{arith}
-use lib.ListN.{length, take, drop, length-append, length-take, length-drop, take-append-drop}
+use lib.ListN.{length, take, drop, replicate, length-append, length-replicate, length-take, length-drop, take-append-drop}
 use lib.Seq.{paste, take_at, drop_at, drop-drop, take-length, length-take-le, drop-append-add}
+use Rattle.std.proofs.lemmas.List.{drop_all, take-replicate}
+use Rattle.numbers.specs.Numbers.{number}
 use Rattle.numbers.specs.Buffer.{over}
+use Rattle.numbers.proofs.BigEndian.{number_behind_zeros}
 
 -- nothing put
 pub over-nil : (buffer : List ℕ) (at : ℕ) → over buffer at [] ≡ buffer
@@ -16,6 +19,12 @@ over-nil buffer at = rw (append-nil, add-zero) (take-append-drop at buffer)
 pub length_over : (buffer : List ℕ) (at : ℕ) (bs : List ℕ) → at + length bs ≤ length buffer → length (over buffer at bs) ≡ length buffer
 unfolding over
 length_over buffer at bs h = simp (length-append, length-take, length-drop) (omega arith)
+
+-- bytes in the place of so many others
+pub over_put : (buffer : List ℕ) (at : ℕ) (bs : List ℕ) (size : ℕ) → size ≡ length bs
+    → take at buffer ++ (bs ++ drop size (drop at buffer)) ≡ over buffer at bs
+unfolding over
+over_put buffer at bs size e = rw (e, drop-drop) (sym (append_assoc (take at buffer) bs (drop (at + length bs) buffer)))
 
 -- a copy that a loop has finished
 pub over_paste : (buffer : List ℕ) (at : ℕ) (bs : List ℕ) (n : ℕ) → n ≡ length bs → paste buffer at bs n ≡ over buffer at bs
@@ -60,3 +69,12 @@ over_again buffer at xs rest ys e h =
 pub take-over : (buffer bs : List ℕ) → take (length bs) (over buffer 0 bs) ≡ bs
 unfolding over
 take-over buffer bs = take_at bs (drop (0 + length bs) buffer) (length bs) refl
+
+-- bytes behind zeros are the same number
+pub number_over : (size width : ℕ) (bs : List ℕ) → length bs ≡ width → width ≤ size → number (over (replicate size 0) (size - width) bs) ≡ number bs
+unfolding over
+number_over size width bs e le =
+    let zeros : List ℕ = replicate size 0 in
+    let room : length (replicate {A = ℕ} size 0) ≤ size - width + length bs = omega (arith, length-replicate {A = ℕ} size 0) in
+    rw (drop_all (size - width + length bs) zeros room, append-nil, take-replicate {X = ℕ} (size - width) size 0 (omega arith))
+    (number_behind_zeros (size - width) bs)

@@ -1,29 +1,8 @@
--- `numbers::put_bytes` meets its contract: after i turns the first i bytes are in place. Assumes nothing.
-use mathlib.Core.Path.{refl, ◌∙◌}
-use native.Mathlib.Numerals.{add-one}
+-- `numbers::put_bytes` meets its contract. Assumes nothing.
 use native.Mathlib.Omega.{arith}
-use lib.ListN.{length-set}
-use lib.Seq.{paste-zero, paste-suc}
-use Rattle.numbers.proofs.Over.{over_paste}
+use Rattle.numbers.proofs.Over.{over_put}
 use Rattle.numbers.proofs.put_bytes.Goals as goal
-
-pub loop-i-init : goal.loop-i-init
-loop-i-init c = (omega arith, paste-zero c.args.buffer.now c.args.at c.args.bytes.now, refl)
-
-pub loop-i-preserved : goal.loop-i-preserved
-loop-i-preserved c =
-    let l = c.loop-i in
-    let a = c.args in (
-      omega arith,
-      rw (l.invariant.1, add-one) (paste-suc a.buffer.now a.at a.bytes.now l.i 0 (omega arith) (omega arith)),
-      rw length-set l.invariant.2,
-    )
-
-pub shape_of-buffer : goal.shape_of-buffer
-shape_of-buffer c = c.loop-i.invariant.2
 
 pub returns : goal.returns
 returns c =
-    let l = c.loop-i in
-    let a = c.args in
-    l.invariant.1 ∙ over_paste a.buffer.now a.at a.bytes.now l.i (omega arith)
+    rw c.copy_from_slice.ensures.after (over_put c.args.buffer.now c.args.at c.args.bytes.now _ (omega arith))

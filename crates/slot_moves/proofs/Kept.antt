@@ -1,9 +1,8 @@
 -- Slots whose first so many hold readable frames, after frames have moved up or one was put behind the others. Assumes nothing.
 use mathlib.Core.Path.{◌≡◌, refl, sym, ap, ◌∙◌}
 use mathlib.Core.List.{List, [], ◌∷◌, ◌++◌}
-use mathlib.Core.Logic.{⊎_elim}
 use Prim.Native.Nat.{ℕ, suc, ◌+◌, ◌*◌, ◌≤◌, ◌<◌}
-use native.Mathlib.Nat.{eq-or-lt_of_le}
+use borrow.Author.Count.{below_more}
 use native.Mathlib.Omega.{arith}
 use lib.ListN.{length, take, length-append}
 use lib.Seq.{length-take-le, get_or-take}
@@ -83,8 +82,5 @@ module _ (slots : List ℕ) (count : ℕ) (frame : List ℕ) (size : Slots slots
       record {
         few = omega arith;
         reads = λ k lt.
-            ⊎_elim
-            (λ (e : suc k ≡ suc count). let same : k ≡ count = omega arith in rw (same, frame_at_new) reads)
-            (λ (l : suc k < suc count). rw (frame_at_old k (omega arith)) (kept.reads k (omega arith)))
-            (eq-or-lt_of_le lt);
+            below_more (λ k. Reads (frame_at with_frame k)) count (λ k l. rw (frame_at_old k l) (kept.reads k l)) (rw frame_at_new reads) k (omega arith);
       }

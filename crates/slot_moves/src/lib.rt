@@ -2,11 +2,11 @@
 // Preconditions: slots, room and readable frames, which the calls of a panel have.
 #![tactic(auto)]
 
-ghost use Rattle.std.specs.Prelude.{◌≡◌, ◌++◌, ◌+◌, ◌*◌, ◌≤◌, ◌<◌, length, take, drop};
+ghost use Rattle.std.specs.Prelude.{◌≡◌, ◌++◌, ◌*◌, ◌≤◌, ◌<◌, length};
 ghost use Rattle.numbers.specs.Numbers.{big_endian};
 ghost use Rattle.numbers.specs.Buffer.{over};
 ghost use Rattle.rules.specs.Sizes.{buffer_length};
-ghost use Rattle.slots.specs.Slots.{slot_length, slots_length, Slots, Listed};
+ghost use Rattle.slots.specs.Slots.{slot_length, Slots, Listed};
 ghost use Rattle.slot_moves.specs.Moves.{Gathered};
 
 use numbers::{number_at, put_bytes, put_number};
@@ -23,31 +23,17 @@ pub fn put_frame(slots: &mut [u8; SLOTS], slot: usize, frame: &[u8])
     put_bytes(slots, at + 2, frame);
 }
 
-// Copies so many bytes to a place before them.
-fn move_bytes(slots: &mut [u8; SLOTS], to: usize, from: usize, count: usize)
-    requires { Slots slots.old × (to ≤ from) × (from + count ≤ slots_length) }
-    ensures { slots.new ≡ over slots.old to (take count (drop from slots.old)) }
-{
-    let mut i = 0;
-    while i < count {
-        slots[to + i] = slots[from + i];
-        i += 1;
-    }
-}
-
 // The frames in the slots listed move up to the first slots.
 pub fn gather(slots: &mut [u8; SLOTS], places: &[u8; 32], count: usize)
     requires { Slots slots.old × Listed slots.old count places.now }
     ensures { Gathered slots.old places.now count slots.new }
 {
-    let mut slot = 0;
-    while slot < count {
-        let place = places[slot] as usize;
+    for (slot, place) in places[..count].iter().enumerate() {
+        let place = usize::from(*place);
         if slot < place {
             let from = place * SLOT;
             let length = number_at(slots, from, 2) as usize;
-            move_bytes(slots, slot * SLOT, from, 2 + length);
+            slots.copy_within(from..from + 2 + length, slot * SLOT);
         }
-        slot += 1;
     }
 }

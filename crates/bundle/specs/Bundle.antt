@@ -1,12 +1,12 @@
 -- Document 01, "Bundle and listing program": bundles and their reader.
-use Rattle.std.specs.Prelude.{ℕ, ◌+◌, cond, List, [], ◌∷◌, ◌++◌, ◌≡◌, length, take, drop, ltb, eqb}
+use Rattle.std.specs.Prelude.{ℕ, ◌+◌, cond, List, [], ◌∷◌, ◌++◌, ◌≡◌, length, take, drop, ltb, eqb, Option, None, Result, Ok, IsOkAnd, IsSomeAnd, IsErr}
 use Rattle.std.specs.Borrow.{Bor}
 use Rattle.numbers.specs.Numbers.{big_endian, number_at}
 use Rattle.bundle.specs.declared.Step.{Step}
 use Rattle.bundle.specs.declared.Step.TheVariants.{Frame, End, Broken}
 use Rattle.bundle.specs.declared.BundleStep.{BundleStep}
 use Rattle.bundle.specs.declared.Reader.{Reader}
-use Rattle.bundle.specs.declared.NextFrame.{NextFrame}
+use Rattle.bundle.specs.declared.BrokenBundle.{BrokenBundle}
 
 -- a bundle is a run of frames, each behind its length in 16 bits
 unfoldable pub bundle_of : List (List ℕ) → List ℕ
@@ -71,8 +71,14 @@ pub record Part (bundle : Bor (List ℕ)) (start : ℕ) (held : List ℕ) (part 
 abbrev pub FramePart : Bor (List ℕ) → ℕ → Bor (List ℕ) → Type 0
 FramePart bundle place = Part bundle (start_of (step_at bundle.now place)) (frame_at bundle.now place)
 
--- what a reader gives
-pub record Gives (reader : Reader) (next : NextFrame) : Type 0 where
-  pub kind : next.kind ≡ kind_of (step_at reader.bundle.now reader.place)
-  pub part : FramePart reader.bundle reader.place next.part
-  pub place : next.place ≡ place_after (step_at reader.bundle.now reader.place) reader.place
+-- what a reader gives at a step: the frame as the part of the slice; none at the end; or that the bundle is broken
+abbrev pub Given : Bor (List ℕ) → Step → Result (Option (Bor (List ℕ))) BrokenBundle → Type 0
+Given bundle (Frame start size next) given = IsOkAnd given (λ frame. IsSomeAnd frame (λ part. Part bundle start (take size (drop start bundle.now)) part))
+Given bundle End given = given ≡ Ok None
+Given bundle Broken given = IsErr given
+
+-- what a reader gives, and the reader behind it
+pub record Gives (reader : Reader) (given : Result (Option (Bor (List ℕ))) BrokenBundle) (behind : Reader) : Type 0 where
+  pub frame : Given reader.bundle (step_at reader.bundle.now reader.place) given
+  pub bundle : behind.bundle ≡ reader.bundle
+  pub place : behind.place ≡ place_after (step_at reader.bundle.now reader.place) reader.place

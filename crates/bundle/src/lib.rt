@@ -10,7 +10,7 @@ use numbers::number_at;
 
 // What stands at a place: a frame, from start on, of so many bytes, and the place behind it; the end;
 // or broken. With end and broken the place stays.
-#[derive(Clone, Copy)]
+#[derive(Debug, Clone, Copy, PartialEq, Eq)]
 pub enum Step {
     Frame {
         start: usize,
@@ -48,7 +48,15 @@ pub fn step_at(bundle: &[u8], place: usize) -> Step
     }
 }
 
-// A step as C has it: kind 0 is a frame, 1 the end, 2 broken.
+// The kinds of a step, by the numbers that C has for them.
+#[derive(Clone, Copy)]
+enum Kind {
+    Frame = 0,
+    End = 1,
+    Broken = 2,
+}
+
+// A step as C has it.
 #[repr(C)]
 #[derive(Clone, Copy)]
 pub struct BundleStep {
@@ -56,6 +64,18 @@ pub struct BundleStep {
     pub length: usize,
     pub next: usize,
     pub kind: u8,
+}
+
+// A step that has no frame, and stays at its place.
+fn staying(kind: u8, place: usize) -> BundleStep
+    ensures { result ≡ record { start = 0; length = 0; next = place; kind = kind } }
+{
+    BundleStep {
+        start: 0,
+        length: 0,
+        next: place,
+        kind,
+    }
 }
 
 // The step at a place of a bundle, for C, to which `bundle_c` exports it. With end and broken start and
@@ -72,20 +92,10 @@ pub fn panel_bundle_step(bundle: &[u8], place: usize) -> BundleStep
             start,
             length,
             next,
-            kind: 0,
+            kind: Kind::Frame as u8,
         },
-        Step::End => BundleStep {
-            start: 0,
-            length: 0,
-            next: place,
-            kind: 1,
-        },
-        Step::Broken => BundleStep {
-            start: 0,
-            length: 0,
-            next: place,
-            kind: 2,
-        },
+        Step::End => staying(Kind::End as u8, place),
+        Step::Broken => staying(Kind::Broken as u8, place),
     }
 }
 
@@ -104,38 +114,45 @@ pub struct Reader<'a> {
     pub place: usize,
 }
 
-// What a reader gives: kind 0 is a frame, 1 the end, 2 broken; the frame as the part of the bundle
-// that it occupies, with end and broken the empty part at the bundle's start; and the place behind
-// it, with end and broken the reader's.
-#[derive(Clone, Copy)]
-pub struct NextFrame<'a> {
-    pub kind: u8,
-    pub part: &'a [u8],
-    pub place: usize,
-}
+// A bundle that is cut short, or a place past its end.
+#[derive(Debug, Clone, Copy, PartialEq, Eq)]
+pub struct BrokenBundle;
 
-// A reader at the start of a bundle.
-pub fn new<'a>(bundle: &'a [u8]) -> Reader<'a>
-    ensures { (result.bundle ≡ bundle.entry) × (result.place ≡ 0) }
-{
-    Reader { bundle, place: 0 }
-}
+impl<'a> Reader<'a> {
+    // A reader at the start of a bundle.
+    pub fn new(bundle: &'a [u8]) -> Reader<'a>
+        ensures { (result.bundle ≡ bundle.entry) × (result.place ≡ 0) }
+    {
+        Reader { bundle, place: 0 }
+    }
 
-// What comes next. The reader behind it has the same bundle, and the place that is given.
-pub fn next<'a>(reader: Reader<'a>) -> NextFrame<'a>
-    ensures { Gives reader.entry result }
-{
-    let step = panel_bundle_step(reader.bundle, reader.place);
-    NextFrame {
-        kind: step.kind,
-        part: cut(reader.bundle, step.start, step.length),
-        place: step.next,
+    // The next frame, as the part of the bundle that it occupies, or none at the end. The reader goes on
+    // behind a frame; at the end and where the bundle is broken it stays.
+    pub fn next(&mut self) -> Result<Option<&'a [u8]>, BrokenBundle>
+        ensures { Gives self.old result self.new }
+    {
+        match step_at(self.bundle, self.place) {
+            Step::Frame {
+                start,
+                length,
+                next,
+            } => {
+                self.place = next;
+                Ok(Some(cut(self.bundle, start, length)))
+            }
+            Step::End => Ok(None),
+            Step::Broken => Err(BrokenBundle),
+        }
     }
 }
 
-// The frame at a place, as a reader there gives it.
+// The frame at a place, as a reader there gives it. With end and broken it is the empty part at the
+// bundle's start.
 pub fn part_at(bundle: &[u8], place: usize) -> &[u8]
     ensures { FramePart bundle.entry place result }
 {
-    next(Reader { bundle, place }).part
+    match (Reader { bundle, place }).next() {
+        Ok(Some(part)) => part,
+        _ => cut(bundle, 0, 0),
+    }
 }

@@ -49,10 +49,10 @@ use Rattle.bundle.proofs.step_at.Statement as step_at
 use Rattle.bundle.proofs.step_at.Met as step-at-theorem
 use Rattle.bundle.proofs.part_at.Statement as part_at
 use Rattle.bundle.proofs.part_at.Met as part-at-theorem
-use Rattle.bundle.proofs.new.Statement as new
-use Rattle.bundle.proofs.new.Met as new-theorem
-use Rattle.bundle.proofs.next.Statement as next
-use Rattle.bundle.proofs.next.Met as next_theorem
+use Rattle.bundle.proofs.Reader.new.Statement as new
+use Rattle.bundle.proofs.Reader.new.Met as new-theorem
+use Rattle.bundle.proofs.Reader.next.Statement as next
+use Rattle.bundle.proofs.Reader.next.Met as next_theorem
 
 -- Each function ends, is safe, and keeps its promise for all arguments.
 pub record Calls (M : Type 1) : Type 2 where

@@ -3,6 +3,8 @@
 // hold readable frames; the calls of a panel refuse any other record.
 #![tactic(auto)]
 
+mod readable;
+
 ghost use Rattle.std.specs.Prelude.{◌≡◌, ◌&&◌, ◌<◌, eqb};
 ghost use Rattle.frame.specs.Reading.{mask_in, message_in};
 ghost use Rattle.rules.specs.Sizes.{width};
@@ -12,8 +14,10 @@ ghost use Rattle.slots.specs.Slots.{Reads, Slots, Fits, Kept, first_slots, held}
 ghost use Rattle.slots.specs.Slots.{frame_at as frameIn};
 ghost use Rattle.slots.specs.Alive.{Alive};
 
-use frame::{BUFFER, DEADLINE_AT, MASK_AT, WIDTH};
+use frame::BUFFER;
 use numbers::number_at;
+pub use readable::Readable;
+use std::array;
 
 // The bytes of a slot: a length, and room for the longest frame.
 pub const SLOT: usize = 2 + BUFFER;
@@ -45,32 +49,21 @@ pub fn source(frame: &[u8]) -> u8
     requires { Reads frame.now }
     ensures { result ≡ (message_in width frame.now).source }
 {
-    frame[5]
+    Readable { frame }.source()
 }
 
 pub fn deadline(frame: &[u8]) -> u64
     requires { Reads frame.now }
     ensures { result ≡ (message_in width frame.now).deadline }
 {
-    number_at(frame, DEADLINE_AT, WIDTH)
+    Readable { frame }.deadline()
 }
 
 pub fn mask(frame: &[u8]) -> u64
     requires { Reads frame.now }
     ensures { result ≡ mask_in width frame.now }
 {
-    number_at(frame, MASK_AT, 8)
-}
-
-// Whether the message of a readable frame has that source and deadline.
-fn is_named(frame: &[u8], panel: u8, due: u64) -> bool
-    requires { Reads frame.now }
-    ensures { result ≡ (eqb panel (message_in width frame.now).source && eqb due (message_in width frame.now).deadline) }
-{
-    if panel != source(frame) {
-        return false;
-    }
-    due == deadline(frame)
+    Readable { frame }.mask()
 }
 
 // Whether a message of the frame's source and deadline waits in the first slots.
@@ -80,25 +73,21 @@ pub fn is_waiting<'a, 'b>(frame: &'a [u8], slots: &'b [u8], count: usize) -> boo
 {
     let panel = source(frame);
     let due = deadline(frame);
-    let mut slot = 0;
-    while slot < count {
-        if is_named(kept_frame(slots, slot), panel, due) {
+    for slot in 0..count {
+        if Readable::in_slot(slots, slot).is_named(panel, due) {
             return true;
         }
-        slot += 1;
     }
     false
 }
 
 // Whether a deadline has lapsed at a panel of that time and floor: it is below the time, or at most the
 // floor. (Not below floor + 1: that sum could pass 64 bits.)
+#[tactic(auto, unfolding(rules::specs::Panel::has_lapsed))]
 pub fn has_lapsed(due: u64, time: u64, floor: u64) -> bool
     ensures { result ≡ has_lapsed time floor due }
 {
-    if due < time {
-        return true;
-    }
-    due <= floor
+    due < time || due <= floor
 }
 
 // Those of the first slots whose messages have not lapsed at that time and floor.
@@ -108,13 +97,11 @@ pub fn alive(slots: &[u8], count: usize, time: u64, floor: u64) -> Places
 {
     let mut places = [0u8; 32];
     let mut kept = 0;
-    let mut slot = 0;
-    while slot < count {
-        if !has_lapsed(deadline(kept_frame(slots, slot)), time, floor) {
+    for slot in 0..count {
+        if !has_lapsed(Readable::in_slot(slots, slot).deadline(), time, floor) {
             places[kept] = slot as u8;
             kept += 1;
         }
-        slot += 1;
     }
     Places {
         count: kept,
@@ -126,11 +113,5 @@ pub fn alive(slots: &[u8], count: usize, time: u64, floor: u64) -> Places
 pub fn in_order() -> [u8; 32]
     ensures { result ≡ first_slots 32 }
 {
-    let mut places = [0u8; 32];
-    let mut slot = 0;
-    while slot < 32 {
-        places[slot] = slot as u8;
-        slot += 1;
-    }
-    places
+    array::from_fn(|slot| slot as u8)
 }

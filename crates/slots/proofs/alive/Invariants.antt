@@ -1,11 +1,7 @@
-use Prim.Native.Nat.{◌-◌, ◌≤◌}
 use mathlib.Core.Path.{◌≡◌}
 use lib.ListN.{length}
 use Rattle.slots.proofs.Collecting.{Chosen}
 use Rattle.slots.proofs.alive.Given as goal
 
 abbrev pub invariant-loop-slot : goal.invariant-loop-slot
-invariant-loop-slot l = (l.slot ≤ l.count) × Chosen l.slots l.time l.floor l.slot l.places l.kept × (length l.places ≡ 32)
-
-abbrev pub decreases-loop-slot : goal.decreases-loop-slot
-decreases-loop-slot l = l.count - l.slot
+invariant-loop-slot l = Chosen l.slots l.time l.floor l.slot l.places l.kept × (length l.places ≡ 32)

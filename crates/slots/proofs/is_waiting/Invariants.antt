@@ -1,5 +1,4 @@
 use mathlib.Core.Path.{◌≡◌}
-use Prim.Native.Nat.{◌-◌}
 use Rattle.frame.specs.Reading.{message_in}
 use Rattle.rules.specs.Sizes.{width}
 use Rattle.rules.specs.Refusals.{is_waiting}
@@ -10,6 +9,3 @@ use Rattle.slots.proofs.is_waiting.Given as goal
 abbrev pub invariant-loop-slot : goal.invariant-loop-slot
 invariant-loop-slot l =
     is_waiting (message_in width l.frame) (held l.slots (between l.slot l.count)) ≡ is_waiting (message_in width l.frame) (held l.slots (first_slots l.count))
-
-abbrev pub decreases-loop-slot : goal.decreases-loop-slot
-decreases-loop-slot l = l.count - l.slot

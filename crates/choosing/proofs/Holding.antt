@@ -5,6 +5,7 @@ use mathlib.Core.Path.{◌≡◌, ap, ◌∙◌}
 use mathlib.Core.List.{List}
 use lib.ListN.{length, get_or, take, get_or-map}
 use lib.Seq.{length-take-le, get_or-take}
+use Rattle.std.specs.Prelude.{Option}
 use Rattle.frame.specs.Message.{Message}
 use Rattle.frame.specs.Reading.{message_in}
 use Rattle.rules.specs.Sizes.{width}
@@ -42,7 +43,7 @@ module _ (p : Panel) (slots : List ℕ) (count : ℕ) (places : List ℕ) (place
   abbrev m : Message
   m = message_in width (frame_at slots (get_or places place 0))
 
-  pub first_below_listed : Listed slots count places → count ≤ length places → place < count → (first next : First)
+  pub first_below_listed : Listed slots count places → count ≤ length places → place < count → (first next : Option First)
       → first ≡ first_below p ms place → next ≡ considered (ready p m) place m first → next ≡ first_below p ms (suc place)
   first_below_listed listed h lt first next before after =
       after

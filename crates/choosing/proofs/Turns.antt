@@ -6,7 +6,7 @@ use Prim.Native.Nat.{ℕ, zero, suc, ◌+◌, ◌-◌, ◌*◌, ◌^◌, ◌≤�
 use native.Mathlib.Nat.{add-zero}
 use native.Mathlib.Numerals.{add-one}
 use native.Mathlib.Omega.{arith}
-use lib.ListN.{get_or}
+use lib.ListN.{length, get_or}
 use lib.Count.{ones_in}
 use lib.Bits.{bit_and}
 use borrow.Author.Tests.{le-leb}
@@ -20,7 +20,7 @@ use Rattle.rules.proofs.Ready.{each_panel-true}
 use Rattle.visits.proofs.Visiting.{visits_stop, visits_counted}
 use Rattle.slots.specs.Slots.{Reads}
 use Rattle.slots.proofs.SetBits.{next}
-use Rattle.slots.proofs.Walk.{entry_of, length_entries, Walk, walk_start, end_none, end_passed, turn_lt, turn_passed, turn_entry, turn_above, turn_skips, walk_on}
+use Rattle.slots.proofs.Walk.{entry_of, length_entries, Walk, walk_start, end_none, end_passed, turn_lt, turn_room, turn_passed, turn_entry, turn_above, turn_skips, walk_on}
 use Rattle.choosing.specs.Choice.{asking}
 
 -- an entry beside the mark of its panel
@@ -70,6 +70,11 @@ module _ (bs marks : List ℕ) (time floor : ℕ) where
   pub met_start : mask_in width bs < 2 ^ 64 → MetBelow bs marks time floor (mask_in width bs) 0
   unfolding each_panel
   met_start fits = record { walk = walk_start bs fits; all_met = refl }
+
+-- in a turn the entry stands in the frame
+pub met_room : {bs marks : List ℕ} {time floor bits visited : ℕ} → MetBelow bs marks time floor bits visited → (bits ≡ 0 → ⊥) → Reads bs
+    → 14 + width + width * visited + width ≤ length bs
+met_room m some reads = turn_room m.walk some reads
 
 -- no bit is left
 module _ (bs marks : List ℕ) (time floor bits visited : ℕ) (m : MetBelow bs marks time floor bits visited) (none : bits ≡ 0) where

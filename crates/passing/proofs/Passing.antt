@@ -1,15 +1,16 @@
 -- A walk over the entries of a frame that removes barrier entries and raises the floor. Assumes nothing.
 use mathlib.Core.Path.{◌≡◌}
 use mathlib.Core.List.{List}
-use Prim.Native.Nat.{ℕ, ◌+◌, ◌-◌, ◌*◌, ◌^◌, ◌<◌, max}
-use lib.ListN.{get_or, set}
+use Prim.Native.Nat.{ℕ, ◌+◌, ◌-◌, ◌*◌, ◌^◌, ◌≤◌, ◌<◌, max}
+use lib.ListN.{length, get_or, set}
 use lib.Bits.{bit_and}
 use Rattle.numbers.specs.Numbers.{number_at}
 use Rattle.frame.specs.Reading.{mask_in, message_in}
 use Rattle.rules.specs.Sizes.{width}
 use Rattle.rules.specs.Handing.{remains, shortened, missed_entry, missed}
+use Rattle.slots.specs.Slots.{Reads}
 use Rattle.slots.proofs.SetBits.{next}
-use Rattle.slots.proofs.Walk.{Walk, walk_start, walk_on}
+use Rattle.slots.proofs.Walk.{Walk, walk_start, turn_room, walk_on}
 use Rattle.passing.proofs.Shortening.{ShortBelow, short_start, short_end, short_on}
 use Rattle.passing.proofs.Rising.{risen_below, risen_start, risen_end, risen_on}
 
@@ -22,6 +23,11 @@ module _ (bs before marks : List ℕ) (time floor : ℕ) where
 
   pub passed_start : mask_in width bs < 2 ^ 64 → PassedBelow before (mask_in width bs) 0 floor
   passed_start fits = record { walk = walk_start bs fits; short = short_start bs before; risen_below_lem = risen_start bs marks time floor }
+
+  -- in a turn the entry stands in the frame
+  pub passed_room : {barrier : List ℕ} {bits passed risen : ℕ} → PassedBelow barrier bits passed risen → (bits ≡ 0 → ⊥) → Reads bs
+      → 14 + width + width * passed + width ≤ length bs
+  passed_room p some reads = turn_room p.walk some reads
 
   -- no bit is left
   pub passed_end : {barrier : List ℕ} {bits passed risen : ℕ} → PassedBelow barrier bits passed risen → bits ≡ 0

@@ -3,10 +3,10 @@ use Prim.Native.Nat.{ℕ, suc, ◌+◌, ◌-◌, ◌≤◌, ◌<◌, max}
 use native.Mathlib.Nat.{add-zero}
 use native.Mathlib.Omega.{arith}
 use mathlib.Core.Path.{◌≡◌, refl, sym, ap, ◌∙◌}
-use mathlib.Core.Bool.{true, false}
 use mathlib.Core.Option.{none, some}
 use mathlib.Core.List.{List, [], ◌∷◌}
 use lib.ListN.{length, get_or, take}
+use Rattle.std.specs.Prelude.{Option, Some, None}
 use Rattle.numbers.specs.Buffer.{over}
 use Rattle.numbers.proofs.Over.{over-nil, over-over}
 use Rattle.frame.specs.Message.{Message, message_of}
@@ -156,27 +156,30 @@ module _ (slots : List ℕ) (s : Stage) where
 
 -- a step as the code takes it, from what `choice` found
 module _ (slots : List ℕ) (s : Stage) (listed : Listed slots s.left.waiting s.places)
-    (long : length s.places ≡ 32) (first : First)
-    (is : first ≡ first_in (panel_at slots s).waiting (choice (asking s.marks s.left.time s.left.floor) (panel_at slots s).waiting)) where
-  pub settles_none : first.found ≡ false → Settles slots s s
-  settles_none e = settles_end slots s listed (first_in-none (panel_at slots s) (panel_at slots s).waiting first is e)
+    (long : length s.places ≡ 32) where
+  abbrev found : Option First
+  found = first_in (panel_at slots s).waiting (choice (asking s.marks s.left.time s.left.floor) (panel_at slots s).waiting)
+
+  pub settles_none : None ≡ found → Settles slots s s
+  settles_none is = settles_end slots s listed (first_in-none (panel_at slots s) (panel_at slots s).waiting (sym is))
 
   few : s.left.waiting ≤ length s.places
   few = omega (arith, listed.few)
 
-  pub found_below : first.found ≡ true → first.place < s.left.waiting
-  found_below e =
-      let p = panel_at slots s in
-      let chosen = first_in-some p p.waiting first is e in
-      omega (arith, (choice-some p p.waiting (waiting_at p 0) first.place chosen).0, length_listed slots s.left.waiting s.places few)
+  module _ (first : First) (is : Some first ≡ found) where
+    found_some : choice (panel_at slots s) (panel_at slots s).waiting ≡ some first.place
+    found_some = first_in-some (panel_at slots s) (panel_at slots s).waiting first (sym is)
 
-  length_found : first.found ≡ true → length (log_record (waiting_at (panel_at slots s) first.place)) ≡ log_record_length
-  length_found e =
-      let lt = found_below e in
-      rw (held_at slots s.left.waiting s.places first.place (message_of 0 0 [] []) listed few lt)
-      (length-readable _ (listed.reads first.place lt))
+    pub found_below : first.place < s.left.waiting
+    found_below =
+        let p = panel_at slots s in
+        omega (arith, (choice-some p p.waiting (waiting_at p 0) first.place found_some).0, length_listed slots s.left.waiting s.places few)
 
-  pub settles_some : first.found ≡ true → output_place s.left ≤ length s.output → (t u : Stage) → HandedAt slots first.place s t
-      → Settles slots t u → Settles slots s u
-  settles_some e room t u h rest =
-      settles_on slots s first.place t u (first_in-some (panel_at slots s) (panel_at slots s).waiting first is e) room (length_found e) h rest
+    length_found : length (log_record (waiting_at (panel_at slots s) first.place)) ≡ log_record_length
+    length_found =
+        rw (held_at slots s.left.waiting s.places first.place (message_of 0 0 [] []) listed few found_below)
+        (length-readable _ (listed.reads first.place found_below))
+
+    pub settles_some : output_place s.left ≤ length s.output → (t u : Stage) → HandedAt slots first.place s t → Settles slots t u
+        → Settles slots s u
+    settles_some room t u h rest = settles_on slots s first.place t u found_some room length_found h rest

@@ -1,5 +1,4 @@
 use mathlib.Core.Path.{◌≡◌}
-use Prim.Native.Nat.{◌-◌, ◌≤◌}
 use lib.ListN.{take}
 use Rattle.slots.specs.Slots.{held}
 use Rattle.choosing.specs.Choice.{asking}
@@ -7,8 +6,4 @@ use Rattle.choosing.proofs.Choosing.{first_below}
 use Rattle.choosing.proofs.choice.Given as goal
 
 abbrev pub invariant-loop-place : goal.invariant-loop-place
-invariant-loop-place l =
-    (l.place ≤ l.waiting) × (l.first ≡ first_below (asking l.marks l.time l.floor) (held l.slots (take l.waiting l.places)) l.place)
-
-abbrev pub decreases-loop-place : goal.decreases-loop-place
-decreases-loop-place l = l.waiting - l.place
+invariant-loop-place l = l.first ≡ first_below (asking l.marks l.time l.floor) (held l.slots (take l.waiting l.places)) l.place

@@ -9,7 +9,7 @@ ghost use Rattle.frame.specs.Reading.{message_in};
 ghost use Rattle.rules.specs.Sizes.{width};
 ghost use Rattle.rules.specs.Panel.{ready as is_ready};
 ghost use Rattle.rules.specs.Refusals.{message_checks, receive_checks};
-ghost use Rattle.slots.specs.Slots.{Reads, Slots, Kept};
+ghost use Rattle.slots.specs.Slots.{Slots, Kept};
 ghost use Rattle.choosing.specs.Choice.{asking};
 ghost use Rattle.lent.specs.Record.{parts, record_of};
 ghost use Rattle.checking.specs.Checks.{frame_checks_on, NotNarrow, early_checks, full_number};
@@ -17,7 +17,7 @@ ghost use Rattle.checking.specs.Checks.{frame_checks_on, NotNarrow, early_checks
 use choosing::ready;
 use frame_check::frame_check;
 use parts::{OUTPUT, broken};
-use slots::{deadline, has_lapsed, is_waiting, mask, source};
+use slots::{Readable, has_lapsed};
 
 // The number of the first check that turns down a frame before its message is looked at, or 0: 26, 10, 1 to 8.
 #[tactic(auto, unfolding(frame::specs::Refusal::first_of))]
@@ -46,14 +46,14 @@ fn early_number<'a, 'b>(
     marks: &'a [u64; 64],
     slots: &'a [u8],
     floor: u64,
-    frame: &'b [u8],
+    message: Readable<'b>,
 ) -> u8
-    requires { Reads frame.now × Slots slots.now × Kept slots.now count }
+    requires { Slots slots.now × Kept slots.now count }
     ensures { result ≡ first_of (early_checks (record_of (parts own time 0 count marks.now [] slots.now floor))
-        (message_in width frame.now)) }
+        (message_in width message.entry.frame.now)) }
 {
-    let from = source(frame);
-    let due = deadline(frame);
+    let from = message.source();
+    let due = message.deadline();
     let mark = marks[from as usize];
     let late = has_lapsed(due, time, floor);
     if from == own {
@@ -68,7 +68,7 @@ fn early_number<'a, 'b>(
     if due <= mark {
         return 22; // its deadline is at most its source's mark
     }
-    if is_waiting(frame, slots, count) {
+    if message.is_waiting(slots, count) {
         return 22; // it is waiting already
     }
     0
@@ -80,15 +80,14 @@ fn place_number<'a, 'b>(
     count: usize,
     marks: &'a [u64; 64],
     floor: u64,
-    frame: &'b [u8],
+    message: Readable<'b>,
 ) -> u8
-    requires { Reads frame.now }
-    ensures { result ≡ full_number count (is_ready (asking marks.now time floor) (message_in width frame.now)) }
+    ensures { result ≡ full_number count (is_ready (asking marks.now time floor) (message_in width message.entry.frame.now)) }
 {
     if count < 32 {
         return 0;
     }
-    let tested = ready(frame, mask(frame), marks, time, floor);
+    let tested = ready(message, message.mask(), marks, time, floor);
     if tested.ready {
         return 0;
     }
@@ -103,17 +102,17 @@ pub fn message_number<'a, 'b>(
     marks: &'a [u64; 64],
     slots: &'a [u8],
     floor: u64,
-    frame: &'b [u8],
+    message: Readable<'b>,
 ) -> u8
-    requires { Reads frame.now × Slots slots.now × Kept slots.now count }
+    requires { Slots slots.now × Kept slots.now count }
     ensures { result ≡ first_of (message_checks (record_of (parts own time 0 count marks.now [] slots.now floor))
-        (message_in width frame.now)) }
+        (message_in width message.entry.frame.now)) }
 {
-    let number = early_number(own, time, count, marks, slots, floor, frame);
+    let number = early_number(own, time, count, marks, slots, floor, message);
     if number != 0 {
         return number;
     }
-    place_number(time, count, marks, floor, frame)
+    place_number(time, count, marks, floor, message)
 }
 
 // The number of the first check that turns down a frame, or 0: 26, 10, 1 to 8, 20, 21, 32, 22, 23.
@@ -139,5 +138,5 @@ pub fn receive_number<'a, 'b>(
     if number != 0 {
         return number;
     }
-    message_number(own, time, count, marks, slots, floor, frame)
+    message_number(own, time, count, marks, slots, floor, Readable { frame })
 }

@@ -25,7 +25,7 @@ use handing::hand;
 use parts::{Answer, settle_slots};
 use settling::Settling;
 use slot_moves::put_frame;
-use slots::{SLOTS, in_order, mask};
+use slots::{Readable, SLOTS, in_order};
 use widening::{first, widen};
 
 // Takes the message of a readable frame: a ready one is handed without entering the list, any other
@@ -45,7 +45,8 @@ fn take(
         slots.old (stage s (first_slots 32) marks.old barrier.old output.old)
         slots.new (stage result (first_slots 32) marks.new barrier.new output.new) }
 {
-    let tested = ready(frame, mask(frame), marks, s.time, s.floor);
+    let message = Readable { frame };
+    let tested = ready(message, message.mask(), marks, s.time, s.floor);
     if tested.ready {
         let mut rest = s;
         let mut floor = s.floor;

@@ -6,10 +6,9 @@
 mod readable;
 
 ghost use Rattle.std.specs.Prelude.{◌≡◌, ◌&&◌, ◌<◌, eqb};
-ghost use Rattle.frame.specs.Reading.{mask_in, message_in};
+ghost use Rattle.frame.specs.Reading.{message_in};
 ghost use Rattle.rules.specs.Sizes.{width};
 ghost use Rattle.rules.specs.Panel.{has_lapsed};
-ghost use Rattle.rules.specs.Refusals.{is_waiting as waits};
 ghost use Rattle.slots.specs.Slots.{Reads, Slots, Fits, Kept, first_slots, held};
 ghost use Rattle.slots.specs.Slots.{frame_at as frameIn};
 ghost use Rattle.slots.specs.Alive.{Alive};
@@ -44,7 +43,7 @@ pub fn kept_frame(slots: &[u8], slot: usize) -> &[u8]
     &slots[start..end]
 }
 
-// The source, the deadline and the mask of a readable frame.
+// The source and the deadline of a readable frame.
 pub fn source(frame: &[u8]) -> u8
     requires { Reads frame.now }
     ensures { result ≡ (message_in width frame.now).source }
@@ -57,28 +56,6 @@ pub fn deadline(frame: &[u8]) -> u64
     ensures { result ≡ (message_in width frame.now).deadline }
 {
     Readable { frame }.deadline()
-}
-
-pub fn mask(frame: &[u8]) -> u64
-    requires { Reads frame.now }
-    ensures { result ≡ mask_in width frame.now }
-{
-    Readable { frame }.mask()
-}
-
-// Whether a message of the frame's source and deadline waits in the first slots.
-pub fn is_waiting<'a, 'b>(frame: &'a [u8], slots: &'b [u8], count: usize) -> bool
-    requires { Reads frame.now × Slots slots.now × Kept slots.now count }
-    ensures { result ≡ waits (message_in width frame.now) (held slots.now (first_slots count)) }
-{
-    let panel = source(frame);
-    let due = deadline(frame);
-    for slot in 0..count {
-        if Readable::in_slot(slots, slot).is_named(panel, due) {
-            return true;
-        }
-    }
-    false
 }
 
 // Whether a deadline has lapsed at a panel of that time and floor: it is below the time, or at most the

@@ -4,7 +4,8 @@
 ghost use Rattle.std.specs.Prelude.{◌≡◌, ◌&&◌, ◌<◌, eqb};
 ghost use Rattle.frame.specs.Reading.{mask_in, message_in};
 ghost use Rattle.rules.specs.Sizes.{width};
-ghost use Rattle.slots.specs.Slots.{Reads, Slots, frame_at};
+ghost use Rattle.rules.specs.Refusals.{is_waiting};
+ghost use Rattle.slots.specs.Slots.{Reads, Slots, Kept, frame_at, first_slots, held};
 
 use crate::kept_frame;
 use frame::{DEADLINE_AT, MASK_AT, WIDTH};
@@ -47,9 +48,24 @@ impl<'a> Readable<'a> {
     }
 
     // Whether its message has that source and deadline.
-    pub fn is_named(self, panel: u8, due: u64) -> bool
+    fn is_named(self, panel: u8, due: u64) -> bool
         ensures { result ≡ (eqb panel (message_in width self.entry.frame.now).source && eqb due (message_in width self.entry.frame.now).deadline) }
     {
         panel == self.source() && due == self.deadline()
+    }
+
+    // Whether a message of the same source and deadline waits in the first slots.
+    pub fn is_waiting(self, slots: &[u8], count: usize) -> bool
+        requires { Slots slots.now × Kept slots.now count }
+        ensures { result ≡ is_waiting (message_in width self.entry.frame.now) (held slots.now (first_slots count)) }
+    {
+        let panel = self.source();
+        let due = self.deadline();
+        for slot in 0..count {
+            if Readable::in_slot(slots, slot).is_named(panel, due) {
+                return true;
+            }
+        }
+        false
     }
 }

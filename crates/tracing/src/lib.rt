@@ -14,7 +14,7 @@ use choosing::ready;
 use frame::BUFFER;
 use frame_check::{frame_check, is_narrow};
 use parts::broken;
-use slots::{SLOTS, mask};
+use slots::{Readable, SLOTS};
 use widening::{first, widen};
 
 // What is shown of a frame: the number that a receive of it with an output long enough would be refused
@@ -64,7 +64,8 @@ fn trace_wide<'a, 'b>(
             number: unread_number(broken, unread),
         };
     }
-    let tested = ready(frame, mask(frame), marks, time, floor);
+    let message = Readable { frame };
+    let tested = ready(message, message.mask(), marks, time, floor);
     if broken {
         return Trace {
             visited: tested.visited,
@@ -75,7 +76,7 @@ fn trace_wide<'a, 'b>(
     Trace {
         visited: tested.visited,
         ready: tested.ready,
-        number: message_number(own, time, count, marks, slots, floor, frame),
+        number: message_number(own, time, count, marks, slots, floor, message),
     }
 }
 

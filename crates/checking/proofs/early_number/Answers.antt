@@ -7,4 +7,4 @@ use Rattle.checking.proofs.early_number.Goals as goal
 
 pub bounds-marks-from : goal.bounds-marks-from
 unfolding message_in
-bounds-marks-from c = omega (arith, c.source-from.ensures, (zero_passed width c.args.frame.now c.requires.0).source)
+bounds-marks-from c = omega (arith, c.source-from.ensures, (zero_passed width c.args.message.frame.now c.args.message.reads).source)

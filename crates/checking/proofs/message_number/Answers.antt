@@ -17,6 +17,6 @@ pub returns : goal.returns
 returns c =
     let a = c.args in
     let given = record_of (parts a.own a.time 0 a.count a.marks.now [] a.slots.now a.floor) in
-    let m = message_in width a.frame.now in
+    let m = message_in width a.message.frame.now in
     c.place_number.ensures ∙ ap₂ full_number (sym (length-first_slots a.slots.now a.count)) (ready-asking given m)
     ∙ sym (at_last given m (sym c.early_number-number.ensures ∙ c.if-number-ne0.false))

@@ -29,16 +29,21 @@ returns-then-number-ne0 c =
     let number = framed lent _ _ _ _ c.broken-broken.ensures c.frame_number-number.ensures in
     number ∙ frame_refused _ _ _ (λ e. c.if-number-ne0.true (number ∙ e))
 
+pub invariant_of-message_number : goal.invariant_of-message_number
+invariant_of-message_number c =
+    let a = c.args in
+    let lent = parts a.own a.time a.high a.count a.marks.now a.barrier.now a.slots.now a.floor in
+    let through =
+    sym (framed lent _ _ _ _ c.broken-broken.ensures c.frame_number-number.ensures) ∙ c.if-number-ne0.false in
+    record { reads = wide_reads a.frame.now c.requires.1 (through_reads (record_of lent) a.frame.now a.output.now through) }
+
 pub message_number-requires : goal.message_number-requires
 message_number-requires c =
     let a = c.args in
     let lent = parts a.own a.time a.high a.count a.marks.now a.barrier.now a.slots.now a.floor in
     let through =
-    sym (framed lent _ _ _ _ c.broken-broken.ensures c.frame_number-number.ensures) ∙ c.if-number-ne0.false in (
-      wide_reads a.frame.now c.requires.1 (through_reads (record_of lent) a.frame.now a.output.now through),
-      search rules,
-      valid_kept lent (through_valid (record_of lent) a.frame.now a.output.now through),
-    )
+    sym (framed lent _ _ _ _ c.broken-broken.ensures c.frame_number-number.ensures) ∙ c.if-number-ne0.false in
+    (search rules, valid_kept lent (through_valid (record_of lent) a.frame.now a.output.now through))
 
 pub returns : goal.returns
 returns c =

@@ -30,12 +30,9 @@ returns-then-unread-ne0 c =
     let number = c.unread_number.ensures ∙ number_unread (record_of lent) a.frame.now _ _ is_broken c.frame_check-unread.ensures unread in
     shown_unread (record_of lent) a.frame.now _ number (λ read. unread (c.frame_check-unread.ensures ∙ read))
 
-pub mask-requires : goal.mask-requires
-mask-requires c = wide_reads c.args.frame.now c.requires (sym c.frame_check-unread.ensures ∙ c.if-unread-ne0.false)
-
-pub ready-tested-requires : goal.ready-tested-requires
-ready-tested-requires c =
-    (wide_reads c.args.frame.now c.requires (sym c.frame_check-unread.ensures ∙ c.if-unread-ne0.false), c.mask.ensures)
+pub invariant_of-message : goal.invariant_of-message
+invariant_of-message c =
+    record { reads = wide_reads c.args.frame.now c.requires (sym c.frame_check-unread.ensures ∙ c.if-unread-ne0.false) }
 
 pub returns-then-broken : goal.returns-then-broken
 returns-then-broken c =
@@ -53,11 +50,8 @@ pub message_number-requires : goal.message_number-requires
 message_number-requires c =
     let a = c.args in
     let lent = parts a.own a.time a.high a.count a.marks.now a.barrier.now a.slots.now a.floor in
-    let whole = sym (whether_broken lent _ c.broken-broken.ensures) ∙ c.if-broken.false in (
-      wide_reads a.frame.now c.requires (sym c.frame_check-unread.ensures ∙ c.if-unread-ne0.false),
-      search rules,
-      valid_kept lent (broken-false (record_of lent) whole),
-    )
+    let whole = sym (whether_broken lent _ c.broken-broken.ensures) ∙ c.if-broken.false in
+    (search rules, valid_kept lent (broken-false (record_of lent) whole))
 
 pub returns : goal.returns
 returns c =

@@ -1,5 +1,6 @@
 -- The checks of a receive, on what they ask for. Assumes nothing.
 use mathlib.Core.Path.{◌≡◌, refl, sym, ap, ◌∙◌}
+use mathlib.Core.Bool.{Bool}
 use mathlib.Core.List.{List, [], ◌∷◌, ◌++◌}
 use Prim.Native.Nat.{ℕ}
 use lib.ListN.{length}
@@ -29,6 +30,11 @@ module _ (bytes : List ℕ) (not_narrow : NotNarrow bytes) (e : refusal_of bytes
   wide-message = ap (λ (w : ℕ). message_in w bytes) (not_narrow e)
 
 -- ---- a frame, before its message is looked at
+
+-- the number of the check is that of the first check that applies to the frame
+pub framed : (p : Panel) (is_broken : Bool) (output n : ℕ) (bytes : List ℕ) → is_broken ≡ broken p → n ≡ first_of (frame_checks_on is_broken output bytes)
+    → n ≡ first_of (frame_checks_on (broken p) output bytes)
+framed p is_broken output n bytes e f = f ∙ ap (λ (b : Bool). first_of (frame_checks_on b output bytes)) e
 
 module _ (p : Panel) (bytes output : List ℕ) where
   -- turned down

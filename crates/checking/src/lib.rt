@@ -1,34 +1,36 @@
-// The checks of a receive: the number of the first that turns a frame down, on a record that is only
-// read. An internal crate. Preconditions: the bytes of slots; a frame that does not read in version 1, and
-// for the last checks one that reads in version 2.
+// The checks of a receive: the first that turns a frame down, on a record that is only read. An internal
+// crate. Preconditions: a frame that does not read in version 1, and for the checks of a message waiting
+// messages that readable frames carry.
 #![tactic(auto)]
 
-ghost use Rattle.std.specs.Prelude.{◌≡◌, []};
-ghost use Rattle.frame.specs.Refusal.{first_of};
+ghost use Rattle.std.specs.Prelude.{◌≡◌};
+ghost use Rattle.frame.specs.Refusal.{first_of, number_in};
 ghost use Rattle.frame.specs.Reading.{message_in};
 ghost use Rattle.rules.specs.Sizes.{width};
 ghost use Rattle.rules.specs.Panel.{ready as is_ready};
 ghost use Rattle.rules.specs.Refusals.{message_checks, receive_checks};
-ghost use Rattle.slots.specs.Slots.{Slots, Kept};
+ghost use Rattle.slots.specs.Slots.{Kept};
 ghost use Rattle.choosing.specs.Choice.{asking};
-ghost use Rattle.lent.specs.Record.{parts, record_of};
+ghost use Rattle.lent.specs.Record.{parts_in, record_of};
 ghost use Rattle.checking.specs.Checks.{frame_checks_on, NotNarrow, early_checks, full_number};
 
 use choosing::ready;
+use frame::Refusal;
 use frame_check::frame_check;
+use lent::View;
 use parts::{OUTPUT, broken};
 use slots::{Readable, has_lapsed};
 
-// The number of the first check that turns down a frame before its message is looked at, or 0: 26, 10, 1 to 8.
+// The first check that turns down a frame before its message is looked at: 26, 10, 1 to 8.
 #[tactic(auto, unfolding(frame::specs::Refusal::first_of))]
-fn frame_number(broken: bool, output: usize, frame: &[u8]) -> u8
-    ensures { result ≡ first_of (frame_checks_on broken output frame.now) }
+fn check_frame(broken: bool, output: usize, frame: &[u8]) -> Result<(), Refusal>
+    ensures { number_in result ≡ first_of (frame_checks_on broken output frame.now) }
 {
     if broken {
-        return 26; // the record is broken
+        return Err(Refusal::RecordBroken);
     }
     if output < OUTPUT {
-        return 10; // the output is short
+        return Err(Refusal::BufferShort);
     }
     frame_check(frame)
 }
@@ -36,107 +38,63 @@ fn frame_number(broken: bool, output: usize, frame: &[u8]) -> u8
 // Document 02, W-205: "A received deadline above time + 1,209,600 (14 days) is now refused."
 const FARTHEST_AHEAD: u64 = 1209600;
 
-// The number of the first check but the last that turns down a message that was read, or 0: 20, 21, 32, 22. That
-// of 32 takes the time from the deadline, which is not below it past 21: a sum could pass 64 bits.
-#[tactic(auto, unfolding(rules::specs::Refusals::message_checks, rules::specs::Refusals::too_far_ahead, rules::specs::Panel::lapsed, rules::specs::Panel::has_lapsed, frame::specs::Refusal::first_of))]
-fn early_number<'a, 'b>(
-    own: u8,
-    time: u64,
-    count: usize,
-    marks: &'a [u64; 64],
-    slots: &'a [u8],
-    floor: u64,
-    message: Readable<'b>,
-) -> u8
-    requires { Slots slots.now × Kept slots.now count }
-    ensures { result ≡ first_of (early_checks (record_of (parts own time 0 count marks.now [] slots.now floor))
-        (message_in width message.entry.frame.now)) }
+// The first check but the last that turns down a message: 20, 21, 32, 22. That of 32 takes the time from the
+// deadline, which is not below it past 21: a sum could pass 64 bits.
+#[tactic(auto, using(crate::proofs::MessageChecks::source_few), unfolding(rules::specs::Refusals::message_checks, rules::specs::Refusals::too_far_ahead, rules::specs::Panel::lapsed, rules::specs::Panel::has_lapsed, frame::specs::Refusal::first_of))]
+fn check_early(view: View, message: Readable) -> Result<(), Refusal>
+    requires { Kept view.slots.now view.count }
+    ensures { number_in result ≡ first_of (early_checks (record_of (parts_in view.entry)) (message_in width message.entry.frame.now)) }
 {
-    let from = message.source();
-    let due = message.deadline();
-    let mark = marks[from as usize];
-    let late = has_lapsed(due, time, floor);
-    if from == own {
-        return 20; // its source is the own number
+    let slots = view.slots;
+    let source = message.source();
+    let deadline = message.deadline();
+    if source == view.own {
+        return Err(Refusal::OwnSource);
     }
-    if late {
-        return 21; // it has lapsed
+    if has_lapsed(deadline, view.time, view.floor) {
+        return Err(Refusal::Lapsed);
     }
-    if FARTHEST_AHEAD < due - time {
-        return 32; // its deadline is too far ahead
+    if FARTHEST_AHEAD < deadline - view.time {
+        return Err(Refusal::TooFarAhead);
     }
-    if due <= mark {
-        return 22; // its deadline is at most its source's mark
+    if deadline <= view.marks[source as usize] {
+        return Err(Refusal::HadAlready);
     }
-    if message.is_waiting(slots, count) {
-        return 22; // it is waiting already
+    if message.is_waiting(slots, view.count) {
+        return Err(Refusal::HadAlready);
     }
-    0
+    Ok(())
 }
 
-// The number of the last check of a message, 23, or 0. With a place free nobody asks whether it is ready.
-fn place_number<'a, 'b>(
-    time: u64,
-    count: usize,
-    marks: &'a [u64; 64],
-    floor: u64,
-    message: Readable<'b>,
-) -> u8
-    ensures { result ≡ full_number count (is_ready (asking marks.now time floor) (message_in width message.entry.frame.now)) }
+// The last check of a message, 23. With a place free nobody asks whether it is ready.
+fn check_place(view: View, message: Readable) -> Result<(), Refusal>
+    ensures { number_in result
+        ≡ full_number view.entry.count (is_ready (asking view.entry.marks.now view.entry.time view.entry.floor) (message_in width message.entry.frame.now)) }
 {
-    if count < 32 {
-        return 0;
+    let marks = view.marks;
+    if view.count < 32 {
+        return Ok(());
     }
-    let tested = ready(message, message.mask(), marks, time, floor);
-    if tested.ready {
-        return 0;
+    if ready(message, message.mask(), marks, view.time, view.floor).ready {
+        return Ok(());
     }
-    23 // 32 are waiting and it is not ready
+    Err(Refusal::ListFull)
 }
 
-// The number of the first check that turns down a message that was read, or 0: 20, 21, 32, 22, 23.
-pub fn message_number<'a, 'b>(
-    own: u8,
-    time: u64,
-    count: usize,
-    marks: &'a [u64; 64],
-    slots: &'a [u8],
-    floor: u64,
-    message: Readable<'b>,
-) -> u8
-    requires { Slots slots.now × Kept slots.now count }
-    ensures { result ≡ first_of (message_checks (record_of (parts own time 0 count marks.now [] slots.now floor))
-        (message_in width message.entry.frame.now)) }
+// The first check that turns down a message: 20, 21, 32, 22, 23.
+pub fn check_message(view: View, message: Readable) -> Result<(), Refusal>
+    requires { Kept view.slots.now view.count }
+    ensures { number_in result ≡ first_of (message_checks (record_of (parts_in view.entry)) (message_in width message.entry.frame.now)) }
 {
-    let number = early_number(own, time, count, marks, slots, floor, message);
-    if number != 0 {
-        return number;
-    }
-    place_number(time, count, marks, floor, message)
+    check_early(view, message)?;
+    check_place(view, message)
 }
 
-// The number of the first check that turns down a frame, or 0: 26, 10, 1 to 8, 20, 21, 32, 22, 23.
-pub fn receive_number<'a, 'b>(
-    own: u8,
-    time: u64,
-    high: u64,
-    count: usize,
-    marks: &'a [u64; 64],
-    barrier: &'a [u64; 64],
-    slots: &'a [u8],
-    floor: u64,
-    frame: &'b [u8],
-    output: &'b [u8],
-) -> u8
-    requires { Slots slots.now × NotNarrow frame.now }
-    ensures { result ≡ first_of (receive_checks
-        (record_of (parts own time high count marks.now barrier.now slots.now floor))
-        frame.now output.now) }
+// The first check that turns down a frame: 26, 10, 1 to 8, 20, 21, 32, 22, 23.
+pub fn check_receive(view: View, frame: &[u8], output: &[u8]) -> Result<(), Refusal>
+    requires { NotNarrow frame.now }
+    ensures { number_in result ≡ first_of (receive_checks (record_of (parts_in view.entry)) frame.now output.now) }
 {
-    let broken = broken(own, high, count, marks, barrier, slots);
-    let number = frame_number(broken, output.len(), frame);
-    if number != 0 {
-        return number;
-    }
-    message_number(own, time, count, marks, slots, floor, Readable { frame })
+    check_frame(broken(view), output.len(), frame)?;
+    check_message(view, Readable { frame })
 }

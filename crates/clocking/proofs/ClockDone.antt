@@ -1,5 +1,6 @@
 -- A clock reading that is not turned down: document 01's clock. Assumes nothing.
-use mathlib.Core.Path.{◌≡◌, refl, sym, ap}
+use mathlib.Core.Path.{◌≡◌, refl, sym, ap, ◌∙◌}
+use mathlib.Core.Bool.{Bool}
 use mathlib.Core.List.{List, []}
 use Prim.Native.Nat.{ℕ}
 use lib.ListN.{length}
@@ -24,6 +25,15 @@ use Rattle.clocking.specs.Checks.{clock_checks_on}
 pub clock_checks-on : (p : Record) (time : ℕ) (output : List ℕ) → clock_checks_on (broken p) (length output) time p.time ≡ clock_checks p time output
 unfolding clock_checks
 clock_checks-on p time output = refl
+
+-- the number of the check is that of the first check of a clock call that applies
+pub numbered : (p : Parts) (reading : ℕ) (output : List ℕ) (b : Bool) (number : ℕ) → b ≡ broken (record_of p)
+    → number ≡ first_of (clock_checks_on b (length output) reading p.time)
+    → number ≡ first_of (clock_checks (record_of p) reading output)
+numbered p reading output b number is n =
+    n
+    ∙ ap (λ (b : Bool). first_of (clock_checks_on b (length output) reading p.time)) is
+    ∙ ap first_of (clock_checks-on (record_of p) reading output)
 
 module _ (p : Parts) (time : ℕ) (output : List ℕ) (kept : Places) (alive : Alive p.slots p.count time p.floor kept) where
   abbrev given : Record

@@ -4,6 +4,8 @@ use mathlib.Core.Bool.{true, false, true≢false}
 use Prim.Native.Nat.{◌<◌}
 use native.Mathlib.Omega.{arith}
 use Rattle.std.specs.Prelude.{Result, Ok, Err, is_err}
+use Rattle.std.specs.Result.{IsErrAnd}
+use Rattle.std.proofs.lemmas.Result.{err_from_is_err_and}
 use Rattle.frame.specs.declared.refusal.Refusal.{Refusal}
 use Rattle.frame.specs.declared.refusal.Refusal.TheVariants as refusals
 use Rattle.frame.specs.Refusal.{number_of, number_in}
@@ -39,3 +41,7 @@ module _ {A : Type 0} where
   pub number_in_err : (answer : Result A Refusal) → is_err answer ≡ true → number_in answer ≡ 0 → ⊥
   number_in_err (Ok a) err = absurd (true≢false (sym err))
   number_in_err (Err refusal) err = λ (none : number_of refusal ≡ 0). omega (arith, number_of_pos refusal)
+
+  -- the number of what the exit of a `?` returns
+  pub number_in_given : (answer : Result A Refusal) (refusal : Refusal) → IsErrAnd answer (λ e. e ≡ refusal) → number_in answer ≡ number_of refusal
+  number_in_given answer refusal given = let (is, is_err, same) = err_from_is_err_and answer given in rw (is_err, same) refl

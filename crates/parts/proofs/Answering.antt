@@ -3,7 +3,12 @@ use Rattle.std.proofs.Common.{◌≡◌, ℕ, ◌*◌, List, [], ◌∷◌, ◌+
 use Rattle.numbers.specs.Buffer.{over}
 use Rattle.numbers.proofs.Over.{over-over}
 use Rattle.frame.specs.Message.{Message}
-use Rattle.frame.specs.Refusal.{first_of}
+use Rattle.std.specs.Prelude.{Result as Answered}
+use Rattle.std.specs.Result.{IsErrAnd}
+use Rattle.std.proofs.lemmas.Result.{err_from_is_err_and}
+use Rattle.frame.specs.declared.refusal.Refusal.{Refusal}
+use Rattle.frame.specs.Refusal.{number_of, first_of}
+use Rattle.frame.proofs.Refusals.{number_of_pos}
 use Rattle.rules.specs.Sizes.{log_record_length}
 use Rattle.rules.specs.Panel.{Panel as Record}
 use Rattle.rules.specs.Handing.{log_records}
@@ -21,6 +26,8 @@ use Rattle.slot_moves.proofs.Kept.{held_gathered}
 use Rattle.settling.specs.Record.{Stage, stage, panel_at, output_place, Settles}
 use Rattle.settling.specs.Record.{Settling}
 use Rattle.lent.specs.Record.{Parts, parts, record_of}
+use Rattle.parts.specs.declared.answer.Accepted.{Accepted}
+use Rattle.parts.specs.Answers.{answer_of}
 use Rattle.parts.specs.Record.{PromisedInPlace, SettlesSlots}
 
 -- ---- turned down
@@ -31,11 +38,15 @@ refused_promised p call number e refuses =
     let same : number ≡ (defined p call).number = e ∙ sym (defined-number p call) in
     ap (refused p (output_of call) (buffer_of call)) same ∙ sym (refusal_unchanged p call (λ z. refuses (same ∙ z)))
 
--- in place the parts are left as they were
-pub refused_in_place : (p : Parts) (call : Call) (number : ℕ) → number ≡ first_of (checks_of (record_of p) call) → (number ≡ 0 → ⊥)
-    → PromisedInPlace p call (record { count = 0; length = 0; number = number }) p (output_of call) (buffer_of call)
+-- in place the parts are left as they were, by a call that gives up on a check's refusal
+pub refused_in_place : (p : Parts) (call : Call) (answer : Answered Accepted Refusal) (refusal : Refusal)
+    → IsErrAnd answer (λ e. e ≡ refusal) → number_of refusal ≡ first_of (checks_of (record_of p) call)
+    → PromisedInPlace p call (answer_of answer) p (output_of call) (buffer_of call)
 unfolding refused
-refused_in_place p call number e refuses = (refused_promised (record_of p) call number e refuses, λ _. refl)
+refused_in_place p call answer refusal is e =
+    let (given, is_err, same) = err_from_is_err_and answer is in
+    rw (is_err, same)
+    (refused_promised (record_of p) call (number_of refusal) e (λ none. omega (arith, none, number_of_pos refusal)), λ _. refl)
 
 -- ---- done
 
@@ -50,15 +61,9 @@ pub settles_slots : (slots : List ℕ) (begun : Stage) (s : Settling) (places ma
     → Settles slots begun (stage s places marks barrier output) → length begun.places ≡ 32 → Gathered slots places s.waiting after
     → SettlesSlots slots begun after (stage s (first_slots 32) marks barrier output)
 settles_slots slots begun s places marks barrier output after settles long gathered =
-    let settled = settle_settles (panel_at slots begun) in
-    let own : s.own ≡ begun.left.own = ap (λ (p : Record). p.own) settles.panel ∙ settled.own in
-    let time : s.time ≡ begun.left.time = ap (λ (p : Record). p.time) settles.panel ∙ settled.time in
     let held-now = held_gathered slots places s.waiting after (omega (arith, settles.listed.few, settles.long)) gathered in
     record {
-      panel =
-          ap₂ (λ (o t : ℕ). record_of (parts o t s.high s.waiting marks barrier after s.floor)) (sym own) (sym time)
-          ∙ ap (with_waiting (panel_at slots (stage s places marks barrier output))) held-now
-          ∙ settles.panel;
+      panel = ap (with_waiting (panel_at slots (stage s places marks barrier output))) held-now ∙ settles.panel;
       logged = record { output = settles.logged.output; handed = settles.logged.handed };
     }
 

@@ -66,3 +66,7 @@ pub waiting_decides : (p : Parts) (within : Bool) → p.own ≤ 63 → within �
 waiting_decides p within own is all few =
     let (marks, barrier) = and_both _ _ (sym is ∙ all) in
     sym (broken_waiting (record_of p) own marks barrier (omega (arith, few, length-first_slots p.slots p.count)))
+
+-- what 26 says of a record that is read, it says of the record that is lent
+pub seen_broken : {seen lent : Parts} {is_broken : Bool} → seen ≡ lent → is_broken ≡ broken (record_of seen) → is_broken ≡ broken (record_of lent)
+seen_broken same is = is ∙ ap (λ (p : Parts). broken (record_of p)) same

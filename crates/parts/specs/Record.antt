@@ -24,6 +24,6 @@ PromisedInPlace before call answer after output buffer =
 
 -- the record has settled, and what still waits lies in the first slots
 pub record SettlesSlots (slots : List ℕ) (before : Stage) (slots' : List ℕ) (after : Stage) : Type 0 where
-  pub panel : record_of (parts before.left.own before.left.time after.left.high after.left.waiting after.marks after.barrier slots' after.left.floor)
+  pub panel : record_of (parts after.left.own after.left.time after.left.high after.left.waiting after.marks after.barrier slots' after.left.floor)
       ≡ (settle (panel_at slots before)).panel
   pub logged : Logged (settle (panel_at slots before)).handed before after

@@ -31,6 +31,11 @@ use Rattle.receiving.specs.Steps.{taking, handed_at_once, Taken}
 use Rattle.checking.proofs.MessageChecks.{ready-asking}
 use Rattle.parts.proofs.Answering.{afterwards, settled_promised}
 
+-- what the checks say of a record that is read, they say of the record that is lent
+pub seen_checked : {seen lent : Parts} (bytes output : List ℕ) → seen ≡ lent
+    → first_of (receive_checks (record_of seen) bytes output) ≡ first_of (receive_checks (record_of lent) bytes output)
+seen_checked bytes output same = ap (λ (p : Parts). first_of (receive_checks (record_of p) bytes output)) same
+
 -- the record as it begins, with what is lent beside the slots: all of the first slots are listed, nothing was handed
 abbrev pub begun_stage : Parts → List ℕ → Stage
 begun_stage p output =
@@ -48,23 +53,6 @@ receiving-taking p m = go (ready p m)
         ≡ afterwards (cond b (m ∷ []) []) (settle (cond b (hand p m) (with_waiting p (p.waiting ++ (m ∷ [])))))
     go true = refl
     go false = refl
-
--- taking keeps the own number and the time
-taking_kept : (p : Record) (m : Message) → ((taking p m).own ≡ p.own) × ((taking p m).time ≡ p.time)
-unfolding hand
-taking_kept p m = go (ready p m)
-  where
-    go : (b : Bool) → ((cond b (hand p m) (with_waiting p (p.waiting ++ (m ∷ [])))).own ≡ p.own)
-        × ((cond b (hand p m) (with_waiting p (p.waiting ++ (m ∷ [])))).time ≡ p.time)
-    go true = (refl, refl)
-    go false = (refl, refl)
-
-module _ {m : Message} {slots : List ℕ} {before : Stage} {after : List ℕ} {begun : Stage} (taken : Taken m slots before after begun) where
-  taken_own : begun.left.own ≡ before.left.own
-  taken_own = ap (λ (p : Record). p.own) taken.panel ∙ (taking_kept (panel_at slots before) m).0
-
-  taken_time : begun.left.time ≡ before.left.time
-  taken_time = ap (λ (p : Record). p.time) taken.panel ∙ (taking_kept (panel_at slots before) m).1
 
 -- the log record of a message that was handed at once, or none
 length_at_once : (p : Record) (bytes : List ℕ) → Reads bytes
@@ -87,12 +75,9 @@ module _ (p : Parts) (bytes output : List ℕ) (kept : Kept p.slots p.count) (re
     (slots' : List ℕ) (begun : Stage)
     (taken : Taken (message_in width bytes) p.slots (begun_stage p output) slots' begun)
     (slots'' : List ℕ) (after : Stage) (settles : SettlesSlots slots' begun slots'' after) where
-  -- the record left has the own number and the time that it came with
+  -- the record that is left
   abbrev pub left_behind : Record
-  left_behind = record_of (parts p.own p.time after.left.high after.left.waiting after.marks after.barrier slots'' after.left.floor)
-
-  left_settled : left_behind ≡ (settle (panel_at slots' begun)).panel
-  left_settled = rw (← taken_own taken, ← taken_time taken) settles.panel
+  left_behind = record_of (parts after.left.own after.left.time after.left.high after.left.waiting after.marks after.barrier slots'' after.left.floor)
 
   pub received-done : first_of (receive_checks (record_of p) bytes output) ≡ 0
       → Promised (record_of p) (receive bytes output)
@@ -109,5 +94,5 @@ module _ (p : Parts) (bytes output : List ℕ) (kept : Kept p.slots p.count) (re
       (length_at_once (record_of p) bytes reads)
       left_behind
       []
-      left_settled
+      settles.panel
       (sym (over-nil [] 0))

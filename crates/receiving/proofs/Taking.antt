@@ -20,10 +20,11 @@ use Rattle.slots.specs.Slots.{slot_length, Reads, Slots, Kept, held, first_slots
 use Rattle.slots.proofs.Held.{carried_reads}
 use Rattle.slots.proofs.Kept.{listed_order, held_order}
 use Rattle.numbers.proofs.Ones.{ones_in_le}
-use Rattle.slot_moves.proofs.Kept.{slots_put, held_put, kept_put}
+use Rattle.slot_moves.proofs.Kept.{held_put, kept_put}
 use Rattle.choosing.specs.Choice.{asking}
-use Rattle.settling.specs.Record.{Settling}
-use Rattle.settling.specs.Record.{Stage, stage, panel_at, output_place}
+use Rattle.lent.specs.Record.{Known}
+use Rattle.handing.specs.Handed.{with_handed}
+use Rattle.settling.specs.Record.{Settling, Stage, stage, stage_at, panel_at, output_place}
 use Rattle.settling.proofs.Stages.{logged_none}
 use Rattle.receiving.specs.Steps.{taking, handed_at_once, Taken}
 use Rattle.checking.proofs.MessageChecks.{ready-asking}
@@ -57,7 +58,7 @@ length_reads bs reads =
 
 -- ---- the message of a frame is taken
 
-module _ (s : Settling) (marks barrier slots output frame : List ℕ) (reads : Reads frame) (size : Slots slots) (kept : Kept slots s.waiting) where
+module _ (s : Settling) (marks barrier slots output frame : List ℕ) (reads : Reads frame) (kept : Kept slots s.waiting) where
   abbrev before : Stage
   before = stage s (first_slots 32) marks barrier output
 
@@ -93,17 +94,20 @@ module _ (s : Settling) (marks barrier slots output frame : List ℕ) (reads : R
             };
         one_more = omega arith;
         listed = listed_order slots s.waiting kept;
-        size = size;
       }
 
-  pub taken_handed : ready (asking marks s.time s.floor) m ≡ true → (high floor : ℕ) (marks_after barrier_after output_after : List ℕ)
-      → high ≡ max s.high m.deadline → marks_after ≡ raise marks m → barrier_after ≡ raise (shortened barrier m.entries) m
-      → output_after ≡ over output (output_place s) (log_record m) → floor ≡ risen
-      → Taken m slots before slots (stage (one_more high floor) (first_slots 32) marks_after barrier_after output_after)
-  taken_handed ready high floor marks_after barrier_after output_after e em eb eo ef = rw (e, em, eb, eo, ef) (handed_now ready)
+  -- what the panel knew
+  abbrev knew : Known
+  knew = record { own = s.own; time = s.time; high = s.high; marks = marks; barrier = barrier; floor = s.floor }
+
+  pub taken_handed : ready (asking marks s.time s.floor) m ≡ true → (knows : Known) (handed : ℕ) (written : List ℕ)
+      → knows ≡ with_handed knew (max s.high m.deadline) (raise marks m) (raise (shortened barrier m.entries) m) risen
+      → handed ≡ s.handed + 1 → written ≡ over output (output_place s) (log_record m)
+      → Taken m slots before slots (stage_at knows s.waiting (first_slots 32) handed written)
+  taken_handed ready knows handed written ek eh eo = rw (ek, eh, eo) (handed_now ready)
 
   -- not ready, it is put behind the others
-  module _ (unready : ready (asking marks s.time s.floor) m ≡ false) (few : s.waiting < 32) where
+  module _ (unready : ready (asking marks s.time s.floor) m ≡ false) (few : s.waiting < 32) (size : Slots slots) where
     abbrev after : Settling
     after = record { own = s.own; time = s.time; high = s.high; waiting = s.waiting + 1; handed = s.handed; floor = s.floor }
 
@@ -130,7 +134,6 @@ module _ (s : Settling) (marks barrier slots output frame : List ℕ) (reads : R
               logged_none before (stage after (first_slots 32) marks barrier output) (handed_at_once p m) (handed_at_once_unready p m not-ready) refl refl;
           one_more = omega arith;
           listed = listed_order put (s.waiting + 1) kept_after;
-          size = slots_put slots s.waiting frame size kept few (length_reads frame reads);
         }
 
     pub taken_waiting : (slots_after : List ℕ) → slots_after ≡ put → Taken m slots before slots_after (stage after (first_slots 32) marks barrier output)

@@ -4,7 +4,7 @@ use Rattle.frame.specs.Message.{Message}
 use Rattle.rules.specs.Panel.{Panel as Record, ready}
 use Rattle.rules.specs.Handing.{hand}
 use Rattle.rules.specs.Settling.{with_waiting}
-use Rattle.slots.specs.Slots.{Slots, Listed}
+use Rattle.slots.specs.Slots.{Listed}
 use Rattle.settling.specs.Record.{Stage, panel_at, Logged}
 
 -- the record that has taken a message, and what was handed: that message, if it was ready
@@ -20,4 +20,3 @@ pub record Taken (m : Message) (slots : List ℕ) (before : Stage) (slots' : Lis
   pub logged : Logged (handed_at_once (panel_at slots before) m) before after
   pub one_more : after.left.handed + after.left.waiting ≡ before.left.handed + before.left.waiting + 1
   pub listed : Listed slots' after.left.waiting after.places
-  pub size : Slots slots'

@@ -12,7 +12,7 @@ ghost use Rattle.settling.specs.Record.{Leaves, stage_of, Settles};
 use choosing::choice;
 use handing::{Log, hand};
 use lent::State;
-use slots::{Places, kept_frame};
+use slots::{Places, Readable};
 
 // The slot at that place leaves the list, and is the answer; those behind it move up.
 fn leave(list: &mut Places, place: usize) -> u8
@@ -35,11 +35,10 @@ pub fn settle(state: &mut State, list: &mut Places, slots: &[u8], log: &mut Log)
     ensures same { SameState state.old state.new × (log.new.output.ghost_name ≡ log.old.output.ghost_name) }
     ensures settled { Settles slots.now (stage_of state.old list.old log.old) (stage_of state.new list.new log.new) }
 {
-    let next = choice(list.count, &list.slots, state.marks, state.time, *state.floor, slots);
-    if !next.found {
+    let Some(next) = choice(list.count, &list.slots, state.marks, state.time, *state.floor, slots) else {
         return;
-    }
+    };
     let slot = leave(list, next.place) as usize;
-    hand(state, log, kept_frame(slots, slot));
+    hand(state, log, Readable::in_slot(slots, slot));
     settle(state, list, slots, log)
 }

@@ -13,7 +13,7 @@ use numbers::{number_at, put_bytes, put_number};
 use slots::{SLOT, SLOTS};
 
 // Puts a frame into a slot.
-pub fn put_frame(slots: &mut [u8; SLOTS], slot: usize, frame: &[u8])
+pub fn put_frame(slots: &mut [u8], slot: usize, frame: &[u8])
     requires { Slots slots.old × (slot < 32) × (length frame.now ≤ buffer_length) }
     ensures { slots.new ≡ over slots.old (slot * slot_length)
         (big_endian 2 (length frame.now) ++ frame.now) }

@@ -17,7 +17,7 @@ pub returns-clause-logged : goal.returns-clause-logged
 returns-clause-logged c =
     let before = c.args.log.now in
     let p = c.args.state.now in
-    let m = message_in width c.args.frame.now in
+    let m = message_in width c.args.message.frame.now in
     let at = before.count * log_record_length in
     let output = over_part before.output.now at c.put_log_record.new.part (log_record m) c.put_log_record.ensures in
     record {
@@ -31,6 +31,6 @@ returns-clause-logged c =
             count = refl;
             long =
                 ap length output
-                ∙ length_over before.output.now at (log_record m) (omega (arith, length-readable c.args.frame.now c.requires.0, c.requires.1));
+                ∙ length_over before.output.now at (log_record m) (omega (arith, length-readable c.args.message.frame.now c.args.message.reads, c.requires));
           };
     }

@@ -6,6 +6,6 @@ use Rattle.handing.proofs.put_log_record.Goals as goal
 
 pub returns : goal.returns
 returns c =
-    put_log_record c.args.part.now (message_in width c.args.frame.now) c.source.ensures c.deadline.ensures c.payload-payload.ensures.0
-    c.payload-payload.ensures.1 c.requires.0 c.put_number.ensures c.put_number-2.ensures c.put_number-3.ensures c.put_bytes.ensures
+    put_log_record c.args.part.now (message_in width c.args.message.frame.now) c.source.ensures c.deadline.ensures c.payload-payload.ensures.0
+    c.payload-payload.ensures.1 c.requires c.put_number.ensures c.put_number-2.ensures c.put_number-3.ensures c.put_bytes.ensures
     c.put_bytes-2.ensures

@@ -8,7 +8,7 @@ use Rattle.frame.specs.Frame.{narrow, wide, longest}
 use Rattle.frame.specs.Reading.{refusal}
 use Rattle.rules.specs.Results.{receive, defined}
 use Rattle.rules.proofs.Alike.{receive_alike}
-use Rattle.lent.specs.Record.{parts, record_of}
+use Rattle.lent.specs.Record.{parts_of, record_of}
 use Rattle.checking.specs.Checks.{NotNarrow}
 use Rattle.widening.proofs.Widened.{wide_fits, widened, picks_wide, widened_reads, narrow_reads, widened_message, widened_part, wide_or_not}
 use Rattle.receiving.proofs.receive_in_place.Goals as goal
@@ -35,8 +35,8 @@ receive_wide-requires c =
     let kept = c.first.ensures ∙ widened_part bytes are reads (replicate (longest wide) 0) _ _ put.0 put.1 in
     subst⁻¹ NotNarrow kept (λ _. picks_wide bytes are reads)
 
-pub returns-then-is_narrow : goal.returns-then-is_narrow
-returns-then-is_narrow c =
+pub returns-then-is_narrow-clause-promised : goal.returns-then-is_narrow-clause-promised
+returns-then-is_narrow-clause-promised c =
     let a = c.args in
     let bytes = a.frame.now in
     let are : Bytes bytes = λ i. omega (arith, c.type_inv.frame i) in
@@ -44,13 +44,13 @@ returns-then-is_narrow c =
     let put = c.widen-length.ensures in
     -- what is received is the frame of version 2
     let kept = c.first.ensures ∙ widened_part bytes are reads (replicate (longest wide) 0) _ _ put.0 put.1 in
-    let given = record_of (parts a.own a.time a.high.now a.count.now a.marks.now a.barrier.now a.slots.now a.floor.now) in
+    let given = record_of (parts_of a.state.now a.list.now) in
     let output = a.output.now in (
-      c.receive_wide.ensures.0
+      c.receive_wide.ensures.promised.0
           ∙ ap (λ (frame : List ℕ). defined given (receive frame output)) kept
           ∙ receive_alike given output (widened bytes are reads) bytes (widened_reads bytes are reads) (narrow_reads bytes are reads)
           (widened_message bytes are reads),
-      c.receive_wide.ensures.1,
+      c.receive_wide.ensures.promised.1,
     )
 
 -- ---- any other

@@ -1,24 +1,21 @@
 -- `receiving::take` meets its contract: a ready message is handed, any other is put behind those that wait. Assumes nothing.
-use Rattle.std.proofs.Common.{sym, ◌∙◌, rules}
+use Rattle.std.proofs.Common.{sym, refl, ◌∙◌, rules}
+use Rattle.lent.specs.Record.{known}
 use Rattle.receiving.proofs.Taking.{room_unready, length_reads, taken_handed, taken_waiting}
 use Rattle.receiving.proofs.take.Goals as goal
 
-pub overflow_add-rest : goal.overflow_add-rest
-overflow_add-rest c = search (rules, c.requires.room, c.well_formed)
-
-pub returns-then-tested : goal.returns-then-tested
-returns-then-tested c =
-    let (reads, slots, kept) = c.requires.reads in
-    taken_handed _ _ _ _ _ _ reads slots kept (sym c.ready-tested.ensures.ready_value ∙ c.if-tested.true) c.hand.result _ _ _ _
-    c.hand.ensures.0 c.hand.ensures.1 c.hand.ensures.2 c.hand.ensures.3 c.hand.ensures.4
+pub returns-then-ready-clause-taken : goal.returns-then-ready-clause-taken
+returns-then-ready-clause-taken c =
+    let one = c.hand.ensures.handed in
+    taken_handed _ _ _ _ _ _ c.args.message.reads c.requires.kept (sym c.ready.ensures.ready_value ∙ c.if-ready.true)
+    (known c.hand.new.state) c.hand.new.log.count c.hand.new.log.output.now one.known one.log.count one.log.output
 
 pub put_frame-requires : goal.put_frame-requires
 put_frame-requires c =
-    let few = room_unready _ _ _ c.requires.place (sym c.ready-tested.ensures.ready_value ∙ c.if-tested.false) in
-    (c.requires.reads.1, few, length_reads _ c.requires.reads.0)
+    let few = room_unready _ _ _ c.requires.place (sym c.ready.ensures.ready_value ∙ c.if-ready.false) in
+    (search rules, few, length_reads _ c.args.message.reads)
 
-pub returns : goal.returns
-returns c =
-    let (reads, slots, kept) = c.requires.reads in
-    let unready = sym c.ready-tested.ensures.ready_value ∙ c.if-tested.false in
-    taken_waiting _ _ _ _ _ _ reads slots kept unready (room_unready _ _ _ c.requires.place unready) _ c.put_frame.ensures
+pub returns-clause-taken : goal.returns-clause-taken
+returns-clause-taken c =
+    let unready = sym c.ready.ensures.ready_value ∙ c.if-ready.false in
+    taken_waiting _ _ _ _ _ _ c.args.message.reads c.requires.kept unready (room_unready _ _ _ c.requires.place unready) (search rules) _ c.put_frame.ensures

@@ -1,5 +1,5 @@
 -- Document 01, "The panel record": log records as they are read, in an output or a log.
-use Rattle.std.specs.Prelude.{ℕ, ◌+◌, ◌*◌, Bool, cond, ◌&&◌, List, ◌≡◌, length, take, drop, leb, eqb}
+use Rattle.std.specs.Prelude.{ℕ, ◌+◌, ◌*◌, Bool, false, ◌≤◌, cond, Option, MatchOption, ◌&&◌, List, ◌≡◌, length, get_or, take, drop, leb, eqb}
 use Rattle.std.specs.Borrow.{Bor}
 use Rattle.numbers.specs.Numbers.{number_at}
 use Rattle.rules.specs.Sizes.{width, log_record_length}
@@ -9,11 +9,23 @@ use Rattle.log_records.specs.declared.LogFields.{LogFields}
 unfoldable pub log_record_at : List ℕ → ℕ → List ℕ
 log_record_at log index = take log_record_length (drop (index * log_record_length) log)
 
--- a log record has 38 bytes, and its length, behind source and deadline, is at most 32
+-- a log record has 42 bytes, and its length, behind source and deadline, is at most 32
 unfoldable pub is_whole : List ℕ → Bool
 is_whole log_record = eqb (length log_record) log_record_length && leb (number_at log_record (1 + width) 1) 32
 
--- source 1, deadline 4, length 1; where there is no whole log record, all are 0
+-- a whole log record as the part of the caller's bytes that it occupies: what it holds, in which memory block, and from which place on
+pub record WholePart (log : Bor (List ℕ)) (index : ℕ) (part : Bor (List ℕ)) : Type 0 where
+  pub bytes : part.now ≡ log_record_at log.now index
+  pub size : length part.now ≡ log_record_length
+  pub few : get_or part.now (1 + width) 0 ≤ 32
+  pub block : part.ref_ptr.0 ≡ log.ref_ptr.0
+  pub place : part.ref_ptr.1 ≡ index * log_record_length + log.ref_ptr.1
+
+-- that of an index; none where it is not whole
+abbrev pub RecordPart : Bor (List ℕ) → ℕ → Option (Bor (List ℕ)) → Type 0
+RecordPart log index part = MatchOption part (is_whole (log_record_at log.now index) ≡ false) (WholePart log index)
+
+-- source 1, deadline 8, length 1; where there is no whole log record, all are 0
 unfoldable pub fields_in : List ℕ → LogFields
 fields_in log_record =
     cond (is_whole log_record)

@@ -3,7 +3,7 @@
 #![tactic(auto)]
 
 ghost use Rattle.std.specs.Prelude.{◌≡◌};
-ghost use Rattle.log_records.specs.LogRecords.{is_whole, fields_in, log_record_at, PayloadPart};
+ghost use Rattle.log_records.specs.LogRecords.{fields_in, log_record_at, RecordPart, PayloadPart};
 
 use frame::WIDTH;
 use numbers::number_at;
@@ -25,39 +25,40 @@ const PAYLOAD_MOST: u8 = 32;
 
 // The fields of a log record, with the length of its payload; all 0 where there is none.
 #[repr(C)]
-#[derive(Clone, Copy)]
+#[derive(Clone, Copy, Default)]
 pub struct LogFields {
     pub deadline: u64,
     pub source: u8,
     pub length: u8,
 }
 
-// Whether a whole log record has that index, with a length of at most 32.
-fn is_whole(log: &[u8], index: usize) -> bool
-    ensures { result ≡ is_whole (log_record_at log.now index) }
+// The log record of that index, as the part of the log that it occupies, where it is whole and its
+// length is at most 32.
+fn record_at(log: &[u8], index: usize) -> Option<&[u8]>
+    ensures { RecordPart log.entry index result }
 {
     if log.len() / LOG_RECORD <= index {
-        return false;
+        return None;
     }
-    log[index * LOG_RECORD + LENGTH_AT] <= PAYLOAD_MOST
+    let start = index * LOG_RECORD;
+    let record = &log[start..start + LOG_RECORD];
+    if PAYLOAD_MOST < record[LENGTH_AT] {
+        return None;
+    }
+    Some(record)
 }
 
 // The fields of the log record of that index.
 pub fn panel_log_fields(log: &[u8], index: usize) -> LogFields
     ensures { result ≡ fields_in (log_record_at log.now index) }
 {
-    if !is_whole(log, index) {
-        return LogFields {
-            deadline: 0,
-            source: 0,
-            length: 0,
-        };
-    }
-    let start = index * LOG_RECORD;
+    let Some(record) = record_at(log, index) else {
+        return LogFields::default();
+    };
     LogFields {
-        deadline: number_at(log, start + DEADLINE_AT, WIDTH),
-        source: log[start],
-        length: log[start + LENGTH_AT],
+        deadline: number_at(record, DEADLINE_AT, WIDTH),
+        source: record[0],
+        length: record[LENGTH_AT],
     }
 }
 
@@ -66,11 +67,9 @@ pub fn panel_log_fields(log: &[u8], index: usize) -> LogFields
 pub fn log_payload(log: &[u8], index: usize) -> &[u8]
     ensures { PayloadPart log.entry index result }
 {
-    if !is_whole(log, index) {
-        return &log[0..0];
-    }
-    let length = number_at(log, index * LOG_RECORD + LENGTH_AT, 1) as usize;
-    let start = index * LOG_RECORD + PAYLOAD_AT;
-    let end = start + length;
-    &log[start..end]
+    let Some(record) = record_at(log, index) else {
+        return &log[..0];
+    };
+    let end = PAYLOAD_AT + usize::from(record[LENGTH_AT]);
+    &record[PAYLOAD_AT..end]
 }

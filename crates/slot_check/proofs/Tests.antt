@@ -1,16 +1,21 @@
 -- Laws of the test whether each frame is readable, as a loop over the slots makes it. Assumes nothing.
-use mathlib.Core.Path.{◌≡◌}
+use mathlib.Core.Path.{◌≡◌, refl, sym, ◌∙◌}
 use mathlib.Core.Bool.{Bool, true, false, cond}
 use mathlib.Core.List.{List, []}
-use Prim.Native.Nat.{ℕ, suc, ◌*◌, ◌≤◌, ◌<◌}
+use Prim.Native.Nat.{ℕ, ◌+◌, ◌-◌, ◌*◌, ◌≤◌, ◌<◌}
+use native.Mathlib.Nat.{le_of_eq}
+use native.Mathlib.Numerals.{add-one}
 use native.Mathlib.Omega.{arith}
-use lib.ListN.{take, drop}
-use lib.Dec.{ltb}
+use borrow.Author.Tests.{eqb-true, eqb-false}
+use lib.ListN.{length, take, drop, length-drop}
+use lib.Seq.{take_all}
+use lib.Dec.{ltb, eqb}
 use Rattle.numbers.specs.Numbers.{Bytes, number_at}
 use Rattle.numbers.proofs.Bytes.{Bytes-drop, Bytes-take}
-use Rattle.rules.specs.Sizes.{buffer_length}
+use Rattle.frame.specs.Reading.{refusal}
+use Rattle.rules.specs.Sizes.{width, buffer_length}
 use Rattle.rules.specs.Refusals.{each_readable}
-use Rattle.slots.specs.Slots.{slot_length, Reads, framed, frame_at, held}
+use Rattle.slots.specs.Slots.{slot_length, framed, frame_at, held}
 use Rattle.slots.proofs.Held.{between, readable-carried, unreadable_carried, held-step, held_none}
 
 -- ---- the frame in a slot is of bytes
@@ -29,16 +34,30 @@ Bytes_frame_at slots slot bytes = Bytes-framed (drop (slot * slot_length) slots)
 
 -- ---- each is readable
 
-module _ (slots : List ℕ) (slot count : ℕ) where
-  pub each_readable-next : slot < count → Bytes (frame_at slots slot) → Reads (frame_at slots slot)
-      → each_readable (held slots (between slot count)) ≡ each_readable (held slots (between (suc slot) count))
-  unfolding each_readable
-  each_readable-next lt bytes reads = rw (held-step slots slot count lt, readable-carried (frame_at slots slot) bytes reads)
+-- a turn, at which the test was made of the slot with those behind it
+module _ (slots : List ℕ) (slot count : ℕ) (holds : Bool) (turn : slot < count)
+    (is : holds ≡ eqb (refusal width (framed (take (length slots - slot * slot_length) (drop (slot * slot_length) slots)))) 0) where
+  answered : eqb (refusal width (frame_at slots slot)) 0 ≡ holds
+  unfolding frame_at
+  answered =
+      let rest = drop (slot * slot_length) slots in
+      sym (rw (take_all (length slots - slot * slot_length) rest (le_of_eq (length-drop (slot * slot_length) slots))) at is)
 
-  pub each_readable_stop : slot < count → (Reads (frame_at slots slot) → ⊥) → each_readable (held slots (between slot count)) ≡ false
+  pub each_readable-next : Bytes slots → holds ≡ true
+      → each_readable (held slots (between slot count)) ≡ each_readable (held slots (between (slot + 1) count))
   unfolding each_readable
-  each_readable_stop lt unread = rw (held-step slots slot count lt, unreadable_carried (frame_at slots slot) unread)
+  each_readable-next bytes read =
+      rw (
+        held-step slots slot count turn,
+        readable-carried (frame_at slots slot) (Bytes_frame_at slots slot bytes) (eqb-true _ _ (answered ∙ read)),
+        add-one slot,
+      ) refl
 
-  pub each_readable_end : count ≤ slot → each_readable (held slots (between slot count)) ≡ true
+  pub each_readable_stop : holds ≡ false → each_readable (held slots (between slot count)) ≡ false
   unfolding each_readable
-  each_readable_end le = rw (held_none slots slot count le)
+  each_readable_stop unread =
+      rw (held-step slots slot count turn, unreadable_carried (frame_at slots slot) (λ reads. eqb-false _ _ (answered ∙ unread) reads)) refl
+
+pub each_readable_end : (slots : List ℕ) (slot count : ℕ) → count ≤ slot → each_readable (held slots (between slot count)) ≡ true
+unfolding each_readable
+each_readable_end slots slot count le = rw (held_none slots slot count le) refl

@@ -1,2 +1,0 @@
--- Laws of the lifetime of a send.
-pub mod Lifetime

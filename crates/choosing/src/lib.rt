@@ -12,9 +12,7 @@ ghost use Rattle.visits.specs.Visiting.{visits};
 ghost use Rattle.slots.specs.Slots.{Slots, Listed, held};
 ghost use Rattle.choosing.specs.Choice.{asking, first_in, goes_before, considered};
 
-use frame::{ENTRIES_AT, WIDTH};
-use numbers::number_at;
-use slots::{Readable, has_lapsed};
+use slots::{Entries, Readable, has_lapsed};
 
 // The answer of the test for ready, and how many entries of the message were visited.
 #[derive(Clone, Copy)]
@@ -39,32 +37,29 @@ fn is_met(entry: u64, mark: u64, time: u64, floor: u64) -> bool
     entry <= mark || has_lapsed(entry, time, floor)
 }
 
-// Whether a message of that mask is ready: from set bit to set bit, lowest first, up to the first entry
-// that is not met. (The mask is read before: with it, this would be too long for the compiler to put it
-// into its callers.)
-#[tactic(auto, using(slots::proofs::Walk::turn_lt, slots::proofs::Walk::turn_room))]
+// Whether a message of that mask is ready: up to the first entry that is not met. (The mask is read
+// before: with it, this would be too long for the compiler to put it into its callers.)
 pub fn ready(message: Readable, mask: u64, marks: &[u64; 64], time: u64, floor: u64) -> Tested
     requires { mask ≡ mask_in width message.frame.now }
     ensures ready_value { result.ready ≡ is_ready (asking marks.now time floor) (message_in width message.entry.frame.now) }
     ensures visited_value { result.visited ≡ visits (asking marks.now time floor) (message_in width message.entry.frame.now) }
 {
-    let mut bits = mask;
-    let mut visited = 0;
-    while bits != 0 {
-        let panel = u64::trailing_zeros(bits) as usize;
-        let entry = number_at(message.frame, ENTRIES_AT + WIDTH * visited, WIDTH);
-        visited += 1;
+    let mut entries = Entries {
+        message,
+        bits: mask,
+        passed: 0,
+    };
+    while let Some((panel, entry)) = entries.next() {
         if !is_met(entry, marks[panel], time, floor) {
             return Tested {
                 ready: false,
-                visited,
+                visited: entries.passed,
             };
         }
-        bits &= bits - 1;
     }
     Tested {
         ready: true,
-        visited,
+        visited: entries.passed,
     }
 }
 

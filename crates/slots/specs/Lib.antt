@@ -1,3 +1,4 @@
 -- The waiting list in slots, and the slots of messages alive.
 pub mod Slots
+pub mod Entries
 pub mod Alive

@@ -3,6 +3,7 @@
 // hold readable frames; the calls of a panel refuse any other record.
 #![tactic(auto)]
 
+mod entries;
 mod readable;
 
 ghost use Rattle.std.specs.Prelude.{◌≡◌, ◌&&◌, ◌<◌, eqb};
@@ -13,6 +14,7 @@ ghost use Rattle.slots.specs.Slots.{Reads, Slots, Fits, Kept, first_slots, held}
 ghost use Rattle.slots.specs.Slots.{frame_at as frameIn};
 ghost use Rattle.slots.specs.Alive.{Alive};
 
+pub use entries::Entries;
 use frame::BUFFER;
 use numbers::number_at;
 pub use readable::Readable;

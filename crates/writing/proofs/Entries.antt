@@ -9,6 +9,10 @@ use lib.ListN.{length, get_or, take, drop, length-append, length-drop, take-appe
 use lib.Pow.{pow_mono}
 use lib.Seq.{take-suc, drop-cons}
 use lib.Count.{ones_in, ones}
+use lib.Dec.{eqb}
+use mathlib.Core.Bool.{not}
+use mir.Val.{bool_byte}
+use borrow.Author.Tests.{ne_eqb}
 use Rattle.frame.specs.Message.{bit, mask_of, present}
 use Rattle.frame.proofs.Entries.{ones_in_ones, mask_of_lt, mask_of_fits, ones_in_mask_of}
 
@@ -20,29 +24,21 @@ ones_mask_of es e =
 
 -- ---- the mask of the entries from s on, as a loop goes down
 
-bit-none : (e : ℕ) → e ≡ 0 → bit e ≡ 0
-bit-none e z = ap bit z
-
-bit_entry : (e : ℕ) → (e ≡ 0 → ⊥) → bit e ≡ 1
-bit_entry zero h = absurd (h refl)
-bit_entry (suc e) h = refl
+-- the bit as code has it
+pub bit_byte : (e : ℕ) → (bool_byte (not (eqb e 0)) ≡ bit e) × (bit e ≤ 1)
+bit_byte zero = (refl, omega arith)
+bit_byte (suc e) = (rw (ne_eqb (suc e) 0 (λ none. absurd (omega arith))) refl, omega arith)
 
 pub mask_of_none : (es : List ℕ) (s : ℕ) → length es ≤ s → mask_of (drop s es) ≡ 0
 unfolding mask_of
 mask_of_none es s h = rw (drop_of_length-le es h)
 
-mask_of_drop : (es : List ℕ) (s : ℕ) → 0 < s → s ≤ length es → mask_of (drop (s - 1) es) ≡ bit (get_or es (s - 1) 0) + 2 * mask_of (drop s es)
+pub mask_of_drop : (es : List ℕ) (s : ℕ) → 0 < s → s ≤ length es → mask_of (drop (s - 1) es) ≡ bit (get_or es (s - 1) 0) + 2 * mask_of (drop s es)
 unfolding mask_of
 mask_of_drop es zero pos h = absurd (omega arith)
 mask_of_drop es (suc s) pos h = rw (sub-one, drop-cons es s 0 h)
 
 module _ (es : List ℕ) (s : ℕ) (pos : 0 < s) (h : s ≤ length es) where
-  pub mask_of_drop_none : get_or es (s - 1) 0 ≡ 0 → mask_of (drop (s - 1) es) ≡ 2 * mask_of (drop s es)
-  mask_of_drop_none z = omega (arith, mask_of_drop es s pos h, bit-none (get_or es (s - 1) 0) z)
-
-  pub mask_of_drop_entry : (get_or es (s - 1) 0 ≡ 0 → ⊥) → mask_of (drop (s - 1) es) ≡ 2 * mask_of (drop s es) + 1
-  mask_of_drop_entry z = omega (arith, mask_of_drop es s pos h, bit_entry (get_or es (s - 1) 0) z)
-
   -- one bit more still fits 64 bits
   pub mask_of_drop_lt : length es ≡ 64 → mask_of (drop s es) * 2 + 1 < 2 ^ 64
   mask_of_drop_lt e =

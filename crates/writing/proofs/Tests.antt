@@ -1,13 +1,12 @@
--- How code finds whether a message has a frame: the entries as a loop goes down, and `readable` test by test. Assumes nothing.
-use mathlib.Core.Path.{◌≡◌}
-use mathlib.Core.Bool.{true, false, and-true, and-false}
+-- How code finds whether a message has a frame: the entries, and `readable` test by test. Assumes nothing.
+use mathlib.Core.Path.{◌≡◌, refl, ap}
+use mathlib.Core.Bool.{Bool, true, false, ◌&&◌, and-true, and-false}
 use mathlib.Core.List.{List, [], ◌∷◌}
-use Prim.Native.Nat.{ℕ, zero, suc, ◌-◌, ◌^◌, ◌≤◌, ◌<◌}
-use native.Mathlib.Numerals.{sub-one}
+use Prim.Native.Nat.{ℕ, ◌^◌, ◌≤◌, ◌<◌}
 use native.Mathlib.Omega.{arith}
-use lib.Dec.{leb}
-use lib.ListN.{length, get_or, drop, drop_of_length-le}
-use lib.Seq.{drop-cons}
+use Rattle.std.specs.List.{list_all}
+use lib.Dec.{ltb, leb}
+use lib.ListN.{length}
 use borrow.Author.Tests.{lt-ltb, le-ltb, eq-eqb}
 use Rattle.numbers.specs.Numbers.{Bytes}
 use Rattle.frame.specs.Message.{Message}
@@ -16,24 +15,10 @@ use Rattle.frame.proofs.EachNumber.{lt-each_below}
 
 -- ---- each below a limit
 
-module _ (limit : ℕ) where
-  -- one that is not below, at any place
-  pub each_below_not : (ns : List ℕ) (i : ℕ) → i < length ns → limit ≤ get_or ns i 0 → each_below limit ns ≡ false
-  unfolding each_below
-  each_below_not [] i l h = absurd (omega arith)
-  each_below_not (n ∷ ns) zero l h = simp (le-ltb n limit h)
-  each_below_not (n ∷ ns) (suc i) l h = simp (each_below_not ns i (omega arith) h, and-false)
-
-  -- those behind place i, to a loop that goes down
-  pub each_below-none : (ns : List ℕ) (i : ℕ) → length ns ≤ i → each_below limit (drop i ns) ≡ true
-  unfolding each_below
-  each_below-none ns i h = rw (drop_of_length-le ns h)
-
-  pub each_below-next : (ns : List ℕ) (i : ℕ) → 0 < i → i ≤ length ns → get_or ns (i - 1) 0 < limit
-      → each_below limit (drop (i - 1) ns) ≡ each_below limit (drop i ns)
-  unfolding each_below
-  each_below-next ns zero pos l h = absurd (omega arith)
-  each_below-next ns (suc i) pos l h = rw (sub-one, drop-cons ns i 0 l) (simp (lt-ltb (get_or ns i 0) limit (rw sub-one at h)))
+pub list_all_below : (limit : ℕ) (ns : List ℕ) → list_all (λ n. ltb n limit) ns ≡ each_below limit ns
+unfolding each_below
+list_all_below limit [] = refl
+list_all_below limit (n ∷ ns) = ap (λ (b : Bool). ltb n limit && b) (list_all_below limit ns)
 
 -- ---- test by test
 

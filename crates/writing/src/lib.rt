@@ -15,35 +15,19 @@ ghost use Rattle.writing.specs.Written.{head_of, written, written_length};
 use frame::{DEADLINE_AT, ENTRIES_AT, MARK_AND_VERSION, MASK_AT, WIDTH};
 use numbers::{put_bytes, put_number};
 
-// Whether each number is below the limit.
-fn each_below(numbers: &[u64], limit: u64) -> bool
-    ensures { result ≡ each_below limit numbers.now }
-{
-    let mut i = numbers.len();
-    while 0 < i {
-        i -= 1;
-        if limit <= numbers[i] {
-            return false;
-        }
-    }
-    true
-}
-
 // Whether the message has a frame.
 fn readable(source: u8, deadline: u64, entries: &[u64], payload: &[u8]) -> bool
     requires { length entries.now ≡ 64 }
     ensures { result ≡ isReadable wide (message_of source deadline entries.now payload.now) }
 {
-    if 63 < source {
-        return false;
-    }
-    if deadline == 0 {
-        return false;
-    }
-    if !each_below(entries, deadline) {
-        return false;
-    }
-    payload.len() <= 32
+    source <= 63 && 0 < deadline && each_below(entries, deadline) && payload.len() <= 32
+}
+
+// Whether each number is below the limit.
+fn each_below(numbers: &[u64], limit: u64) -> bool
+    ensures { result ≡ each_below limit numbers.now }
+{
+    numbers.iter().all(|number| *number < limit)
 }
 
 // The mask of the entries.
@@ -52,13 +36,8 @@ fn mask_of(entries: &[u64]) -> u64
     ensures { result ≡ mask_of entries.now }
 {
     let mut mask: u64 = 0;
-    let mut panel = entries.len();
-    while 0 < panel {
-        panel -= 1;
-        mask = mask * 2;
-        if entries[panel] != 0 {
-            mask += 1;
-        }
+    for panel in (0..entries.len()).rev() {
+        mask = mask * 2 + u64::from(entries[panel] != 0);
     }
     mask
 }
@@ -74,21 +53,17 @@ pub fn put_head(buffer: &mut [u8], source: u8, deadline: u64, mask: u64)
     put_number(buffer, MASK_AT, 8, mask);
 }
 
-// Puts the entries of the panels that have one, lowest panel first, up to the place where they end:
-// behind the last of them no panel is looked at.
-fn put_entries(buffer: &mut [u8], entries: &[u64], end: usize)
-    requires { (end ≡ 14 + wide + wide * length (present entries.now)) × (end ≤ length buffer.old) }
+// Puts the entries of the panels that have one, lowest panel first.
+fn put_entries(buffer: &mut [u8], entries: &[u64])
+    requires { 14 + wide + wide * length (present entries.now) ≤ length buffer.old }
     ensures { buffer.new ≡ over buffer.old (14 + wide) (big_endians wide (present entries.now)) }
 {
     let mut at = ENTRIES_AT;
-    let mut panel = 0;
-    while at < end {
-        let entry = entries[panel];
-        if entry != 0 {
-            put_number(buffer, at, WIDTH, entry);
+    for entry in entries {
+        if *entry != 0 {
+            put_number(buffer, at, WIDTH, *entry);
             at += WIDTH;
         }
-        panel += 1;
     }
 }
 
@@ -126,7 +101,7 @@ pub fn write(
         return 0;
     }
     put_head(buffer, source, deadline, mask);
-    put_entries(buffer, entries, at);
+    put_entries(buffer, entries);
     put_payload(buffer, at, payload);
     length
 }

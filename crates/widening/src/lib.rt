@@ -25,11 +25,9 @@ fn widen_entries(buffer: &mut [u8], frame: &[u8], count: usize)
     ensures { buffer.new ≡ over buffer.old (14 + wide)
         (big_endians wide (numbers_at frame.now (14 + narrow) narrow count)) }
 {
-    let mut i = 0;
-    while i < count {
+    for i in 0..count {
         let entry = number_at(frame, NARROW_ENTRIES_AT + NARROW * i, NARROW);
         put_number(buffer, ENTRIES_AT + WIDTH * i, WIDTH, entry);
-        i += 1;
     }
 }
 

@@ -33,29 +33,25 @@ next buffer frame i room =
 
 pub loop-i-init : goal.loop-i-init
 unfolding numbers_at big_endians
-loop-i-init c = (omega arith, sym (over-nil c.args.buffer.now (14 + wide)), refl)
+loop-i-init c = record { put = sym (over-nil c.args.buffer.now (14 + wide)); same = refl }
 
 pub loop-i-preserved : goal.loop-i-preserved
 loop-i-preserved c =
-    let put = c in
-    let read = put in
-    let l = read.loop-i in
-    let a = read.args in
-    let at = 14 + wide + wide * l.i in (
-      omega arith,
-      put.put_number.ensures
-          ∙ ap (λ (n : ℕ). over l.buffer at (big_endian wide n)) read.number_at-entry.ensures.0
-          ∙ ap (λ (x : List ℕ). over x at (big_endian wide (number_at a.frame.now (14 + narrow + narrow * l.i) narrow))) l.invariant.1
-          ∙ next a.buffer.now a.frame.now l.i (omega arith),
-      search rules,
-    )
-
-pub shape_of-buffer : goal.shape_of-buffer
-shape_of-buffer c = c.loop-i.invariant.2
+    let l = c.loop-i in
+    let a = c.args in
+    let at = 14 + wide + wide * l.i in
+    record {
+      put =
+          c.put_number.ensures
+          ∙ ap (λ (n : ℕ). over l.buffer at (big_endian wide n)) c.number_at-entry.ensures.0
+          ∙ ap (λ (x : List ℕ). over x at (big_endian wide (number_at a.frame.now (14 + narrow + narrow * l.i) narrow))) l.invariant.put
+          ∙ next a.buffer.now a.frame.now l.i (omega arith);
+      same = search rules;
+    }
 
 pub returns : goal.returns
 returns c =
     let l = c.loop-i in
     let a = c.args in
     let all : l.i ≡ a.count = omega arith in
-    l.invariant.1 ∙ ap (λ (i : ℕ). over a.buffer.now (14 + wide) (first a.frame.now i)) all
+    l.invariant.put ∙ ap (λ (i : ℕ). over a.buffer.now (14 + wide) (first a.frame.now i)) all

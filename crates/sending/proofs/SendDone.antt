@@ -5,6 +5,7 @@ use Prim.Native.Nat.{ℕ, ◌≤◌, max}
 use native.Mathlib.Omega.{arith}
 use lib.ListN.{length, get_or, length-append}
 use lib.Dec.{ltb}
+use Rattle.std.specs.Prelude.{Some}
 use Rattle.numbers.specs.Numbers.{Bytes}
 use Rattle.numbers.specs.Buffer.{over}
 use Rattle.frame.specs.Message.{Message}
@@ -15,7 +16,7 @@ use Rattle.frame.proofs.Readable.{Readable, readable-true}
 use Rattle.frame.proofs.Passed.{passed_zero}
 use Rattle.frame.proofs.Places.{frame_passed, frame-message}
 use Rattle.frame.proofs.Theorems.{frame_size}
-use Rattle.writing.specs.Written.{written, written_length}
+use Rattle.writing.specs.Written.{written, written_size}
 use Rattle.writing.proofs.Written.{written-frame}
 use Rattle.rules.specs.Sizes.{width, last_deadline}
 use Rattle.rules.specs.Panel.{Panel as Record, none64}
@@ -64,7 +65,7 @@ module _ {p : Parts} {payload : List ℕ} {lifetime : ℕ} {output buffer : List
 
   -- ---- its frame is written
 
-  pub length-written : written_length width new buffer ≡ length (frame width new)
+  pub length-written : written_size width new buffer ≡ Some (length (frame width new))
   length-written = sym (written-frame width new buffer (readable-true width new readable) frame_fits).0
 
   pub buffer-written : written width new buffer ≡ over buffer 0 (frame width new)

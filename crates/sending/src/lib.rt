@@ -72,7 +72,7 @@ pub fn send_in_place(
         };
     }
     let deadline = send_deadline(time, *high, lifetime);
-    let length = write(own, deadline, barrier, payload, buffer);
+    let length = write(own, deadline, barrier, payload, buffer).unwrap();
     *barrier = [0u64; 64];
     let frame = &buffer[0..length];
     *high = hand(time, *high, 0, floor, marks, barrier, frame, output);

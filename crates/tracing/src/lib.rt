@@ -12,7 +12,7 @@ ghost use Rattle.tracing.specs.Shown.{shown_in};
 use checking::message_number;
 use choosing::ready;
 use frame::BUFFER;
-use frame_check::{frame_check, is_narrow};
+use frame_check::{frame_number, is_narrow};
 use parts::broken;
 use slots::{Readable, SLOTS};
 use widening::{first, widen};
@@ -56,7 +56,7 @@ fn trace_wide<'a, 'b>(
         frame.now }
 {
     let broken = broken(own, high, count, marks, barrier, slots);
-    let unread = frame_check(frame);
+    let unread = frame_number(frame);
     if unread != 0 {
         return Trace {
             visited: 0,

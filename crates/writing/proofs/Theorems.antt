@@ -13,6 +13,8 @@ use Rattle.frame.specs.Reading.{message, reading}
 use Rattle.frame.specs.Readable.{readable}
 use Rattle.frame.proofs.Conjunction.{and_both}
 use Rattle.frame.proofs.Theorems.{reading-frame}
+use Rattle.std.specs.Prelude.{Option}
+use Rattle.std.specs.Option.{unwrap_or}
 use Rattle.writing.specs.Written.{can_write, written, written_length}
 use Rattle.writing.proofs.Written.{written-frame}
 
@@ -23,6 +25,6 @@ unfolding can_write
 reading-written width m buffer w e =
     let t = and_both (readable width m) (leb (length (frame width m)) (length buffer)) e in
     let f = written-frame width m buffer t.0 (leb-true (length (frame width m)) (length buffer) t.1) in
-    ap₂ (λ (n : ℕ) (bs : List ℕ). reading width (take n bs)) (sym f.0) (sym f.1)
+    ap₂ (λ (n : ℕ) (bs : List ℕ). reading width (take n bs)) (ap (λ (size : Option ℕ). unwrap_or size 0) (sym f.0)) (sym f.1)
     ∙ ap (reading width) (take-over buffer (frame width m))
     ∙ reading-frame width m w t.0

@@ -17,22 +17,23 @@ use Rattle.frame.specs.Message.{Message, mask_of, present}
 use Rattle.frame.specs.Frame.{fields, frame}
 use Rattle.frame.specs.Readable.{readable}
 use Rattle.frame.proofs.Places.{length-frame}
-use Rattle.writing.specs.Written.{head_of, can_write, written, written_length}
+use Rattle.std.specs.Prelude.{Option, Some, None}
+use Rattle.writing.specs.Written.{head_of, can_write, written, written_size}
 
 module _ (width : ℕ) (m : Message) (buffer : List ℕ) where
-  not_written : can_write width m buffer ≡ false → (0 ≡ written_length width m buffer) × (buffer ≡ written width m buffer)
+  not_written : can_write width m buffer ≡ false → (◌≡◌ {A = Option ℕ} None (written_size width m buffer)) × (buffer ≡ written width m buffer)
   not_written e = (rw e, rw e)
 
-  pub written_unreadable : readable width m ≡ false → (0 ≡ written_length width m buffer) × (buffer ≡ written width m buffer)
+  pub written_unreadable : readable width m ≡ false → (◌≡◌ {A = Option ℕ} None (written_size width m buffer)) × (buffer ≡ written width m buffer)
   unfolding can_write
   written_unreadable e = not_written (rw e)
 
-  pub written_short : length buffer < length (frame width m) → (0 ≡ written_length width m buffer) × (buffer ≡ written width m buffer)
+  pub written_short : length buffer < length (frame width m) → (◌≡◌ {A = Option ℕ} None (written_size width m buffer)) × (buffer ≡ written width m buffer)
   unfolding can_write
   written_short h = not_written (simp (lt-leb (length (frame width m)) (length buffer) h, and-false))
 
   pub written-frame : readable width m ≡ true → length (frame width m) ≤ length buffer
-      → (length (frame width m) ≡ written_length width m buffer) × (over buffer 0 (frame width m) ≡ written width m buffer)
+      → (Some (length (frame width m)) ≡ written_size width m buffer) × (over buffer 0 (frame width m) ≡ written width m buffer)
   unfolding can_write
   written-frame e h = simp (e, le-leb (length (frame width m)) (length buffer) h) (refl, refl)
 

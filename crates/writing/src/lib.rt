@@ -1,6 +1,5 @@
-// Writing a frame of version 2 into a lent buffer. `write` accepts any input; 0 is its answer where no
-// frame is written, which is no number of document 01. An internal crate: a send writes the frames.
-// Preconditions of what puts a part of a frame: room in the buffer.
+// Writing a frame of version 2 into a lent buffer. `write` accepts any input. An internal crate: a send
+// writes the frames. Preconditions of what puts a part of a frame: room in the buffer.
 #![tactic(auto)]
 
 ghost use Rattle.std.specs.Prelude.{◌≡◌, ◌++◌, ◌+◌, ◌*◌, ◌≤◌, ◌<◌, length};
@@ -10,7 +9,7 @@ ghost use Rattle.frame.specs.Message.{message_of, mask_of, present};
 ghost use Rattle.frame.specs.Frame.{wide};
 ghost use Rattle.frame.specs.Readable.{each_below};
 ghost use Rattle.frame.specs.Readable.{readable as isReadable};
-ghost use Rattle.writing.specs.Written.{head_of, written, written_length};
+ghost use Rattle.writing.specs.Written.{head_of, written, written_size};
 
 use frame::{DEADLINE_AT, ENTRIES_AT, MARK_AND_VERSION, MASK_AT, WIDTH};
 use numbers::{put_bytes, put_number};
@@ -78,30 +77,30 @@ pub fn put_payload(buffer: &mut [u8], at: usize, payload: &[u8])
 }
 
 // Writes the message's frame at the start of the buffer, and answers its length. An entry of 0
-// stands for none. A message that has no frame, or too little room, is answered with 0 and changes
-// nothing.
+// stands for none. A message that has no frame, or too little room, is answered with `None` and
+// changes nothing.
 pub fn write(
     source: u8,
     deadline: u64,
     entries: &[u64; 64],
     payload: &[u8],
     buffer: &mut [u8],
-) -> usize
-    ensures { (result ≡ written_length wide (message_of source deadline entries.now payload.now) buffer.old)
+) -> Option<usize>
+    ensures { (result ≡ written_size wide (message_of source deadline entries.now payload.now) buffer.old)
         × (buffer.new ≡ written wide (message_of source deadline entries.now payload.now) buffer.old) }
 {
     let entries: &[u64] = entries;
     if !readable(source, deadline, entries, payload) {
-        return 0;
+        return None;
     }
     let mask = mask_of(entries);
     let at = ENTRIES_AT + WIDTH * (u64::count_ones(mask) as usize);
     let length = at + 1 + payload.len();
     if buffer.len() < length {
-        return 0;
+        return None;
     }
     put_head(buffer, source, deadline, mask);
     put_entries(buffer, entries);
     put_payload(buffer, at, payload);
-    length
+    Some(length)
 }

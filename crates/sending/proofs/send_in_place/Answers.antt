@@ -1,5 +1,6 @@
 -- `sending::send_in_place` meets its contract: a refusal is the first check that applies, and the rest is document 01's send. Assumes nothing.
 use Rattle.std.proofs.Common.{◌≡◌, ℕ, ◌-◌, Bool, List, length, take, refl, sym, ap, ap₂, ◌∙◌, arith, rules}
+use Rattle.std.specs.Prelude.{Option, Some, is_some}
 use native.Mathlib.Nat.{sub-zero}
 use lib.Dec.{ltb}
 use Rattle.numbers.specs.Buffer.{over}
@@ -56,6 +57,21 @@ send_deadline-deadline-requires c =
     record { bytes = λ i. omega (arith, c.type_inv.payload i); panels = search rules; passed = sym n ∙ c.if-number-ne0.false } in
     (checked P).deadline
 
+-- a length that an answer holds, and the one that it was shown to hold
+same_size : {answer : Option ℕ} {size length : ℕ} → answer ≡ Some size → answer ≡ Some length → size ≡ length
+same_size held shown = cc
+
+pub unwrap-length-requires : goal.unwrap-length-requires
+unfolding broken send_deadline new_message
+unwrap-length-requires c =
+    let a = c.args in
+    let lent = parts a.own a.time a.high.now a.count.now a.marks.now a.barrier.now a.slots.now a.floor.now in
+    let n = numbered lent a.payload.now a.lifetime a.output.now a.buffer.now _ _ _ c.broken-broken.ensures c.passes_last-passes.ensures c.send_number-number.ensures in
+    let P : Passed lent a.payload.now a.lifetime a.output.now a.buffer.now =
+    record { bytes = λ i. omega (arith, c.type_inv.payload i); panels = search rules; passed = sym n ∙ c.if-number-ne0.false } in
+    let wrote = rw c.send_deadline-deadline.ensures at c.write.ensures in
+    ap is_some (wrote.0 ∙ length-written P)
+
 pub slice_bounds-frame-end : goal.slice_bounds-frame-end
 unfolding broken send_deadline new_message
 slice_bounds-frame-end c =
@@ -64,8 +80,8 @@ slice_bounds-frame-end c =
     let n = numbered lent a.payload.now a.lifetime a.output.now a.buffer.now _ _ _ c.broken-broken.ensures c.passes_last-passes.ensures c.send_number-number.ensures in
     let P : Passed lent a.payload.now a.lifetime a.output.now a.buffer.now =
     record { bytes = λ i. omega (arith, c.type_inv.payload i); panels = search rules; passed = sym n ∙ c.if-number-ne0.false } in
-    let wrote = rw c.send_deadline-deadline.ensures at c.write-length.ensures in
-    omega (arith, wrote.0 ∙ length-written P, frame_fits P, c.write-length.auto.buffer)
+    let wrote = rw c.send_deadline-deadline.ensures at c.write.ensures in
+    omega (arith, same_size c.unwrap-length.ensures (wrote.0 ∙ length-written P), frame_fits P, c.write.auto.buffer)
 
 pub hand-requires : goal.hand-requires
 unfolding broken send_deadline new_message
@@ -75,9 +91,9 @@ hand-requires c =
     let n = numbered lent a.payload.now a.lifetime a.output.now a.buffer.now _ _ _ c.broken-broken.ensures c.passes_last-passes.ensures c.send_number-number.ensures in
     let P : Passed lent a.payload.now a.lifetime a.output.now a.buffer.now =
     record { bytes = λ i. omega (arith, c.type_inv.payload i); panels = search rules; passed = sym n ∙ c.if-number-ne0.false } in
-    let wrote = rw c.send_deadline-deadline.ensures at c.write-length.ensures in
+    let wrote = rw c.send_deadline-deadline.ensures at c.write.ensures in
     let f = frame width (new_message (record_of lent) a.payload.now a.lifetime) in
-    let whole = part f a.buffer.now _ _ (wrote.0 ∙ length-written P) (wrote.1 ∙ buffer-written P) in
+    let whole = part f a.buffer.now _ _ (same_size c.unwrap-length.ensures (wrote.0 ∙ length-written P)) (wrote.1 ∙ buffer-written P) in
     (rw whole (frame_reads P), omega (arith, (checked P).output_room))
 
 pub settle_slots-requires : goal.settle_slots-requires
@@ -102,9 +118,9 @@ returns c =
     let n = numbered lent a.payload.now a.lifetime a.output.now a.buffer.now _ _ _ c.broken-broken.ensures c.passes_last-passes.ensures c.send_number-number.ensures in
     let P : Passed lent a.payload.now a.lifetime a.output.now a.buffer.now =
     record { bytes = λ i. omega (arith, c.type_inv.payload i); panels = search rules; passed = sym n ∙ c.if-number-ne0.false } in
-    let wrote = rw c.send_deadline-deadline.ensures at c.write-length.ensures in
+    let wrote = rw c.send_deadline-deadline.ensures at c.write.ensures in
     let f = frame width (new_message (record_of lent) a.payload.now a.lifetime) in
-    let size = wrote.0 ∙ length-written P in
+    let size = same_size c.unwrap-length.ensures (wrote.0 ∙ length-written P) in
     let put = wrote.1 ∙ buffer-written P in
     let order = c.in_order-places in
     let handed = c.hand in

@@ -6,6 +6,7 @@ use borrow.Author.Rules.{rules}
 use native.Mathlib.Omega.{arith}
 use lib.Count.{ones, ones-le}
 use lib.ListN.{length}
+use Rattle.std.specs.Prelude.{Some}
 use Rattle.numbers.specs.Buffer.{over}
 use Rattle.frame.specs.Message.{Message, message_of, mask_of, present}
 use Rattle.frame.specs.Frame.{wide, frame}
@@ -68,7 +69,7 @@ returns c =
     let w = written-frame wide m a.buffer.now (sym c.readable.ensures ∙ c.if-not-readable.false) room in
     let headed : c.put_head.new.buffer ≡ over a.buffer.now 0 (head wide m) =
     c.put_head.ensures ∙ ap (λ (k : ℕ). over a.buffer.now 0 (head_of wide a.source a.deadline k)) c.mask_of-mask.ensures in (
-      s ∙ w.0,
+      ap (λ (n : ℕ). Some n) s ∙ w.0,
       c.put_payload.ensures
           ∙ ap (λ (l : List ℕ). over l at (tail m)) c.put_entries.ensures
           ∙ ap (λ (l : List ℕ). over (over l (14 + wide) (body wide m)) at (tail m)) headed

@@ -1,10 +1,8 @@
--- Laws of a width: its product with a count, and which one the version of bytes picks. Assumes nothing.
+-- Laws of a width: that a version has one, and which one the version of bytes picks. Assumes nothing.
 use mathlib.Core.Path.{◌≡◌, refl}
 use mathlib.Core.Bool.{Bool, true, false, cond}
 use mathlib.Core.List.{List}
-use Prim.Native.Nat.{ℕ, zero, suc, ◌+◌, ◌-◌, ◌*◌, ◌≤◌, ◌<◌}
-use native.Mathlib.Nat.{mul-suc, mul-le-mul}
-use native.Mathlib.Numerals.{sub-one}
+use Prim.Native.Nat.{ℕ, ◌≤◌}
 use native.Mathlib.Omega.{arith}
 use lib.Dec.{eqb}
 use borrow.Author.Tests.{eq-eqb, ne_eqb}
@@ -12,15 +10,6 @@ use Rattle.frame.specs.declared.version.Version.{Version}
 use Rattle.frame.specs.declared.version.Version.TheVariants.{One, Two}
 use Rattle.frame.specs.Frame.{narrow, wide, version_of, Width, width_of}
 use Rattle.frame.specs.Reading.{version_in, width_in}
-
--- one number more in so many bytes each
-pub mul_next : (width count : ℕ) → 0 < count → width * count ≡ width * (count - 1) + width
-mul_next width zero h = absurd (omega arith)
-mul_next width (suc count) h = rw (sub-one, mul-suc)
-
--- the bytes of all entries
-pub mul_few : (width count : ℕ) → width ≤ 8 → count ≤ 64 → width * count ≤ 512
-mul_few width count h few = mul-le-mul h few
 
 -- a version has such a width
 pub width_of_is : (version : Version) → Width (width_of version)

@@ -42,9 +42,9 @@ fn entries_by_panel(frame: &[u8], version: Version, mask: u64) -> [u64; 64]
     let mut entries = [0u64; 64];
     let mut bits = mask;
     let mut at = HEAD + width;
-    for panel in 0..64 {
+    for entry in entries.iter_mut() {
         if bits % 2 == 1 {
-            entries[panel] = entry_at(frame, at, version);
+            *entry = entry_at(frame, at, version);
             at += width;
         }
         bits /= 2;

@@ -1,5 +1,6 @@
 -- A send that is not turned down: document 01's send. Assumes nothing.
-use mathlib.Core.Path.{◌≡◌, refl, sym, ap, ◌∙◌}
+use mathlib.Core.Path.{◌≡◌, refl, sym, ap, ap₂, ◌∙◌}
+use mathlib.Core.Bool.{Bool}
 use mathlib.Core.List.{List, [], ◌∷◌, append-nil}
 use Prim.Native.Nat.{ℕ, ◌≤◌, max}
 use native.Mathlib.Omega.{arith}
@@ -29,8 +30,9 @@ use Rattle.rules.proofs.Checks.{SendPassed, send_passed, new_readable}
 use Rattle.rules.proofs.LogRecords.{length-log_record}
 use Rattle.slots.specs.Slots.{Reads, Kept, first_slots}
 use Rattle.slots.proofs.Kept.{held_order}
-use Rattle.settling.specs.Record.{Stage, stage, panel_at}
-use Rattle.lent.specs.Record.{Parts, record_of}
+use Rattle.handing.specs.Handed.{with_handed}
+use Rattle.settling.specs.Record.{Stage, stage, stage_at, panel_at}
+use Rattle.lent.specs.Record.{Known, Parts, record_of}
 use Rattle.parts.specs.Record.{SettlesSlots}
 use Rattle.parts.proofs.Answering.{afterwards, settled_promised}
 use Rattle.sending.specs.Checks.{send_checks_on}
@@ -39,6 +41,17 @@ pub send_checks-on : (p : Record) (payload : List ℕ) (lifetime : ℕ) (output 
     → send_checks_on (broken p) (length output) (length buffer) (length payload) (ltb last_deadline (send_deadline p lifetime)) ≡ send_checks p payload lifetime output buffer
 unfolding send_checks
 send_checks-on p payload lifetime output buffer = refl
+
+-- the number of the check is that of the first check of a send that applies
+pub numbered : (p : Parts) (payload : List ℕ) (lifetime : ℕ) (output buffer : List ℕ) (is_broken passes : Bool) (number : ℕ)
+    → is_broken ≡ broken (record_of p)
+    → passes ≡ ltb last_deadline (send_deadline (record_of p) lifetime)
+    → number ≡ first_of (send_checks_on is_broken (length output) (length buffer) (length payload) passes)
+    → number ≡ first_of (send_checks (record_of p) payload lifetime output buffer)
+numbered p payload lifetime output buffer is_broken passes number b past n =
+    n
+    ∙ ap₂ (λ (b past : Bool). first_of (send_checks_on b (length output) (length buffer) (length payload) past)) b past
+    ∙ ap first_of (send_checks-on (record_of p) payload lifetime output buffer)
 
 -- a send that no check turns down
 pub record Passed (p : Parts) (payload : List ℕ) (lifetime : ℕ) (output buffer : List ℕ) : Type 0 where
@@ -86,15 +99,16 @@ module _ {p : Parts} {payload : List ℕ} {lifetime : ℕ} {output buffer : List
       (record { own = p.own; time = p.time; high = max p.high new.deadline; waiting = p.count; handed = 1; floor = risen new })
       (first_slots 32) (raise p.marks new) (raise (shortened none64 new.entries) new) (over output 0 (log_record new))
 
-  pub stage_handed : (part : List ℕ) → part ≡ frame width new → (high floor : ℕ) (places marks' barrier' output' : List ℕ)
-      → high ≡ max p.high (message_in width part).deadline → places ≡ first_slots 32
-      → marks' ≡ raise p.marks (message_in width part) → barrier' ≡ raise (shortened none64 (message_in width part).entries) (message_in width part)
-      → output' ≡ over output 0 (log_record (message_in width part)) → floor ≡ risen (message_in width part)
-      → stage (record { own = p.own; time = p.time; high = high; waiting = p.count; handed = 1; floor = floor }) places marks' barrier' output'
-      ≡ handed_stage
-  stage_handed part is high floor places marks' barrier' output' e ep em eb eo ef =
+  pub stage_handed : (part : List ℕ) → part ≡ frame width new → (knows : Known) (handed : ℕ) (places written : List ℕ)
+      → let m = message_in width part in
+      knows
+      ≡ with_handed (record { own = p.own; time = p.time; high = p.high; marks = p.marks; barrier = none64; floor = p.floor })
+          (max p.high m.deadline) (raise p.marks m) (raise (shortened none64 m.entries) m) (risen m)
+      → handed ≡ 1 → places ≡ first_slots 32 → written ≡ over output 0 (log_record m)
+      → stage_at knows p.count places handed written ≡ handed_stage
+  stage_handed part is knows handed places written ek eh ep eo =
       let message : message_in width part ≡ new = ap (message_in width) is ∙ frame-message width new (omega arith) readable in
-      rw (e, ep, em, eb, eo, ef, message)
+      rw (ek, eh, ep, eo, message)
 
   panel_handed : Kept p.slots p.count → panel_at p.slots handed_stage ≡ hand (emptied given) new
   unfolding hand barrier_for

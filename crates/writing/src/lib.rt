@@ -86,8 +86,9 @@ pub fn write(
     payload: &[u8],
     buffer: &mut [u8],
 ) -> Option<usize>
-    ensures { (result ≡ written_size wide (message_of source deadline entries.now payload.now) buffer.old)
+    ensures written { (result ≡ written_size wide (message_of source deadline entries.now payload.now) buffer.old)
         × (buffer.new ≡ written wide (message_of source deadline entries.now payload.now) buffer.old) }
+    ensures panels { length entries.now ≡ 64 }
 {
     let entries: &[u64] = entries;
     if !readable(source, deadline, entries, payload) {

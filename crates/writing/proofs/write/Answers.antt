@@ -31,13 +31,13 @@ module _ (source deadline mask : ℕ) (entries payload : List ℕ) (count : leng
   sized : 14 + wide + wide * ones mask + 1 + length payload ≡ length (frame wide message)
   sized = omega (arith, counted, length-frame wide message)
 
-pub returns-then-not-readable : goal.returns-then-not-readable
-returns-then-not-readable c =
+pub returns-then-not-readable-clause-written : goal.returns-then-not-readable-clause-written
+returns-then-not-readable-clause-written c =
     written_unreadable wide (message_of c.args.source c.args.deadline c.args.entries.now c.args.payload.now) c.args.buffer.now
     (sym c.readable.ensures ∙ c.if-not-readable.true)
 
-pub returns-then-buffer-length : goal.returns-then-buffer-length
-returns-then-buffer-length c =
+pub returns-then-buffer-length-clause-written : goal.returns-then-buffer-length-clause-written
+returns-then-buffer-length-clause-written c =
     let a = c.args in
     let e : length a.entries.now ≡ 64 = search rules in
     let s = sized a.source a.deadline c.mask_of-mask.result a.entries.now a.payload.now e c.mask_of-mask.ensures in
@@ -56,8 +56,8 @@ put_payload-requires c =
     let m = message_of a.source a.deadline a.entries.now a.payload.now in
     ((true-readable wide m (sym c.readable.ensures ∙ c.if-not-readable.false)).payload, omega arith)
 
-pub returns : goal.returns
-returns c =
+pub returns-clause-written : goal.returns-clause-written
+returns-clause-written c =
     let a = c.args in
     let e : length a.entries.now ≡ 64 = search rules in
     let mask = c.mask_of-mask.result in

@@ -8,6 +8,7 @@ ghost use Rattle.rules.specs.Results.{send};
 ghost use Rattle.lent.specs.Record.{parts};
 ghost use Rattle.parts.specs.Record.{PromisedInPlace};
 
+use lent::{State, Waiting};
 use lifetimes::BEACON_LIFETIME;
 use parts::Answer;
 use sending::send_in_place;
@@ -33,18 +34,21 @@ pub fn panel_beacon_parts(
         (parts own time high.new count.new marks.new barrier.new slots.new floor.new)
         output.new buffer.new }
 {
-    send_in_place(
+    let mut state = State {
         own,
         time,
         high,
-        count,
         marks,
         barrier,
-        slots,
         floor,
+    };
+    let mut list = Waiting { count, slots };
+    Answer::from(send_in_place(
+        &mut state,
+        &mut list,
         payload,
         BEACON_LIFETIME,
         output,
         buffer,
-    )
+    ))
 }

@@ -7,7 +7,7 @@
 ghost use Rattle.std.specs.Prelude.{◌≡◌, []};
 ghost use Rattle.frame.specs.Refusal.{first_of, number_in};
 ghost use Rattle.rules.specs.Results.{clock};
-ghost use Rattle.lent.specs.Record.{parts_of, SameState, SameWaiting};
+ghost use Rattle.lent.specs.Record.{parts_of, SameReferences, SameWaiting};
 ghost use Rattle.parts.specs.Answers.{answer_of};
 ghost use Rattle.parts.specs.Record.{PromisedInPlace};
 ghost use Rattle.clocking.specs.Checks.{clock_checks_on};
@@ -42,7 +42,7 @@ pub fn clock_in_place(
     reading: u64,
     output: &mut [u8],
 ) -> Result<Accepted, Refusal>
-    ensures same { SameState state.old state.new × SameWaiting list.old list.new }
+    ensures same { (state.new.own ≡ state.old.own) × SameReferences state.old state.new × SameWaiting list.old list.new }
     ensures promised { PromisedInPlace (parts_of state.old list.old) (clock reading output.old) (answer_of result)
         (parts_of state.new list.new) output.new [] }
 {

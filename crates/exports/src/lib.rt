@@ -1,4 +1,4 @@
-// The calls in place for C, on a record that is lent in its parts; `exports_c` exports them, and
+// The calls in place for C, which lends a record in its parts, and has numbers; `exports_c` exports them, and
 // include/panel.h makes of them calls on a pointer to the struct. Each accepts any input, and may touch
 // what the call may (fresh: every part).
 #![tactic(auto)]
@@ -10,6 +10,8 @@ ghost use Rattle.parts.specs.Record.{PromisedInPlace};
 ghost use Rattle.exports.specs.Fresh.{FreshInPlace};
 
 use clocking::clock_in_place;
+use frame::Refusal;
+use lent::{State, Waiting};
 use parts::Answer;
 use receiving::receive_in_place;
 use sending::send_in_place;
@@ -39,7 +41,7 @@ pub fn panel_fresh_parts(
     *floor = 0;
     if 63 < number {
         *own = 0;
-        return 11;
+        return Refusal::PanelNumber.number();
     }
     *own = number;
     0
@@ -66,9 +68,18 @@ pub fn panel_send_parts(
         (parts own time high.new count.new marks.new barrier.new slots.new floor.new)
         output.new buffer.new }
 {
-    send_in_place(
-        own, time, high, count, marks, barrier, slots, floor, payload, lifetime, output, buffer,
-    )
+    let mut state = State {
+        own,
+        time,
+        high,
+        marks,
+        barrier,
+        floor,
+    };
+    let mut list = Waiting { count, slots };
+    Answer::from(send_in_place(
+        &mut state, &mut list, payload, lifetime, output, buffer,
+    ))
 }
 
 // A frame is received: the log records stand in the output.
@@ -90,9 +101,16 @@ pub fn panel_receive_parts(
         (parts own time high.new count.new marks.new barrier.new slots.new floor.new)
         output.new [] }
 {
-    receive_in_place(
-        own, time, high, count, marks, barrier, slots, floor, frame, output,
-    )
+    let mut state = State {
+        own,
+        time,
+        high,
+        marks,
+        barrier,
+        floor,
+    };
+    let mut list = Waiting { count, slots };
+    Answer::from(receive_in_place(&mut state, &mut list, frame, output))
 }
 
 // The clock shows a time: the log records stand in the output.
@@ -114,7 +132,16 @@ pub fn panel_clock_parts(
         (parts own time.new high.new count.new marks.new barrier.new slots.new floor.new)
         output.new [] }
 {
-    clock_in_place(
-        own, time, high, count, marks, barrier, slots, floor, reading, output,
-    )
+    let mut state = State {
+        own,
+        time: *time,
+        high,
+        marks,
+        barrier,
+        floor,
+    };
+    let mut list = Waiting { count, slots };
+    let answer = clock_in_place(&mut state, &mut list, reading, output);
+    *time = state.time;
+    Answer::from(answer)
 }

@@ -60,12 +60,16 @@ abbrev pub parts_in : View → Parts
 parts_in p = parts p.own p.time p.high p.count p.marks.now p.barrier.now p.slots.now p.floor
 
 -- each reference still is the one that was lent: what stands behind it at the end is the caller's
-abbrev pub SameState : State → State → Type 0
-SameState before after =
+abbrev pub SameReferences : State → State → Type 0
+SameReferences before after =
     (after.high.ghost_name ≡ before.high.ghost_name)
     × (after.marks.ghost_name ≡ before.marks.ghost_name)
     × (after.barrier.ghost_name ≡ before.barrier.ghost_name)
     × (after.floor.ghost_name ≡ before.floor.ghost_name)
+
+-- and own number and time, which stand in the state itself, are as they were
+abbrev pub SameState : State → State → Type 0
+SameState before after = (after.own ≡ before.own) × (after.time ≡ before.time) × SameReferences before after
 
 abbrev pub SameWaiting : Waiting → Waiting → Type 0
 SameWaiting before after = (after.count.ghost_name ≡ before.count.ghost_name) × (after.slots.ghost_name ≡ before.slots.ghost_name)

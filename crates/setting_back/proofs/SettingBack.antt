@@ -11,6 +11,8 @@ use Rattle.rules.specs.Calls.{setting_back}
 use Rattle.rules.specs.Refusals.{broken, set_back_checks}
 use Rattle.rules.specs.Results.{set_back, done, unless, defined}
 use Rattle.lent.specs.Record.{Parts, parts, record_of}
+use Rattle.std.specs.Prelude.{Err}
+use Rattle.frame.specs.declared.refusal.Refusal.TheVariants as refusals
 use Rattle.parts.specs.Record.{PromisedInPlace}
 use Rattle.parts.proofs.Answering.{refused_in_place}
 use Rattle.setting_back.specs.Answer.{answer_of}
@@ -22,7 +24,7 @@ module _ (p : Parts) (reading : ℕ) where
 
   pub set_back_refused : broken (record_of p) ≡ true → PromisedInPlace p (set_back reading) (answer_of 26) p [] []
   unfolding set_back_checks first_of
-  set_back_refused e = refused_in_place p (set_back reading) 26 (rw e) (λ z. omega (arith, z))
+  set_back_refused e = refused_in_place p (set_back reading) (Err refusals.RecordBroken) refusals.RecordBroken refl (rw e)
 
   pub set_back_done : broken (record_of p) ≡ false → (time : ℕ) → time ≡ min p.time reading
       → PromisedInPlace p (set_back reading) (answer_of 0) (with_time_in time) [] []

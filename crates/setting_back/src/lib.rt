@@ -10,11 +10,13 @@ ghost use Rattle.lent.specs.Record.{parts};
 ghost use Rattle.parts.specs.Record.{PromisedInPlace};
 ghost use Rattle.setting_back.specs.Answer.{answer_of};
 
+use frame::Refusal;
+use lent::View;
 use parts::broken;
 use slots::SLOTS;
 
 // The time becomes the lower of its own and the reading. Nothing is handed and nothing dropped; all
-// else of the record is as it was. The answer is 0, or 26.
+// else of the record is as it was. The answer is 0, or 26. (C lends the parts, and has numbers.)
 pub fn panel_set_back_parts<'a>(
     own: u8,
     time: &mut u64,
@@ -31,11 +33,19 @@ pub fn panel_set_back_parts<'a>(
         (set_back reading) (answer_of result)
         (parts own time.new high count marks.now barrier.now slots.now floor) [] [] }
 {
-    if broken(own, high, count, marks, barrier, slots) {
-        return 26; // the record is broken
+    let view = View {
+        own,
+        time: *time,
+        high,
+        count,
+        marks,
+        barrier,
+        slots,
+        floor,
+    };
+    if broken(view) {
+        return Refusal::RecordBroken.number();
     }
-    if reading < *time {
-        *time = reading;
-    }
+    *time = reading.min(*time);
     0
 }

@@ -1,5 +1,5 @@
 -- `exports::panel_fresh_parts` meets its contract: its test is that of 11, and each part is that of a fresh panel. Assumes nothing.
-use mathlib.Core.Path.{refl, sym}
+use mathlib.Core.Path.{refl, sym, ◌∙◌}
 use Prim.Native.Nat.{◌≤◌, ◌<◌}
 use native.Mathlib.Omega.{arith}
 use Rattle.rules.specs.Panel.{none64, fresh}
@@ -12,7 +12,7 @@ unfolding held fresh up_from none64
 returns-then-number-gt63 c =
     let number = c.args.number in
     let above : 63 < c.args.number = omega (arith, c.if-number-gt63.true) in
-    (sym (fresh_number_above number above), sym (fresh_record_above number above), refl)
+    (c.number.ensures ∙ sym (fresh_number_above number above), sym (fresh_record_above number above), refl)
 
 pub returns : goal.returns
 unfolding held fresh up_from none64

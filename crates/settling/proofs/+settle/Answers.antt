@@ -13,7 +13,7 @@ returns-in_default t c =
     let a = c.args in
     let from = stage_of a.state.now a.list.now a.log.now in
     record {
-      same = ((refl, refl, refl, refl), refl);
+      same = ((refl, refl, (refl, refl, refl, refl)), refl);
       settled = settles_none a.slots.now from c.requires.slots.1 c.requires.slots.2 c.in_default.ensures;
     }
 

@@ -51,11 +51,11 @@ module _ (bundle : List ℕ) (place : ℕ) where
 -- ---- a frame found
 
 not_broken : (b : Bool) (x : Step) (s l n : ℕ) → cond b Broken x ≡ Frame s l n → (b ≡ false) × (x ≡ Frame s l n)
-not_broken true x s l n e = let z : ◌≡◌ {A = ℕ} 0 1 = cc in absurd (omega arith)
+not_broken true x s l n e = absurd cc
 not_broken false x s l n e = (refl, e)
 
 not_end : (b : Bool) (x : Step) (s l n : ℕ) → cond b End x ≡ Frame s l n → (b ≡ false) × (x ≡ Frame s l n)
-not_end true x s l n e = let z : ◌≡◌ {A = ℕ} 0 1 = cc in absurd (omega arith)
+not_end true x s l n e = absurd cc
 not_end false x s l n e = (refl, e)
 
 -- where a frame found lies

@@ -56,7 +56,7 @@ enum Kind {
     Broken = 2,
 }
 
-// A step as C has it.
+// A step as C has it, with the number of its kind.
 #[repr(C)]
 #[derive(Clone, Copy)]
 pub struct BundleStep {
@@ -147,7 +147,7 @@ impl<'a> Reader<'a> {
 }
 
 // The frame at a place, as a reader there gives it. With end and broken it is the empty part at the
-// bundle's start.
+// bundle's start, and no None: callers are promised a part, which a frame check then refuses with 1.
 pub fn part_at(bundle: &[u8], place: usize) -> &[u8]
     ensures { FramePart bundle.entry place result }
 {

@@ -13,7 +13,7 @@ pub fn number_at(bytes: &[u8], at: usize, width: usize) -> u64
     ensures { (result ≡ number_at bytes.now at width) × (result < 256 ^ width) }
 {
     let mut eight = [0; 8];
-    put_bytes(&mut eight, 8 - width, &bytes[at..at + width]);
+    put_part(&mut eight, 8 - width, &bytes[at..at + width]);
     u64::from_be_bytes(eight)
 }
 
@@ -22,13 +22,24 @@ pub fn put_number(buffer: &mut [u8], at: usize, width: usize, number: u64)
     requires { (width ≤ 8) × (at + width ≤ length buffer.old) × (number < 256 ^ width) }
     ensures { buffer.new ≡ over buffer.old at (big_endian width number) }
 {
-    put_bytes(buffer, at, &number.to_be_bytes()[8 - width..]);
+    put_part(buffer, at, &number.to_be_bytes()[8 - width..]);
 }
 
-// Puts the bytes into the buffer from place at on.
-pub fn put_bytes(buffer: &mut [u8], at: usize, bytes: &[u8])
+// Puts the bytes of a number into the buffer from place at on.
+fn put_part(buffer: &mut [u8], at: usize, bytes: &[u8])
     requires { at + length bytes.now ≤ length buffer.old }
     ensures { buffer.new ≡ over buffer.old at bytes.now }
 {
     buffer[at..at + bytes.len()].copy_from_slice(bytes);
+}
+
+// Puts the bytes into the buffer from place at on. (By a loop: of copy_from_slice with a length that is
+// no constant the compiler makes a memmove, which the archive for C must not need.)
+pub fn put_bytes(buffer: &mut [u8], at: usize, bytes: &[u8])
+    requires { at + length bytes.now ≤ length buffer.old }
+    ensures { buffer.new ≡ over buffer.old at bytes.now }
+{
+    for i in 0..bytes.len() {
+        buffer[at + i] = bytes[i];
+    }
 }

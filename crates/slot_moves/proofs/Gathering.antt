@@ -1,12 +1,11 @@
 -- Frames that move up to the first slots. Assumes nothing.
 use mathlib.Core.Path.{◌≡◌, refl, sym, ap, ◌∙◌}
 use mathlib.Core.List.{List}
-use Prim.Native.Nat.{ℕ, ◌+◌, ◌-◌, ◌*◌, ◌≤◌, ◌<◌}
+use Prim.Native.Nat.{ℕ, ◌+◌, ◌*◌, ◌≤◌, ◌<◌}
 use borrow.Author.Count.{below_more}
 use native.Mathlib.Omega.{arith}
 use lib.ListN.{length, get_or, take, drop, length-take, length-drop}
 use lib.Seq.{length-take-le, get_or-take}
-use Rattle.std.specs.List.{copy_within}
 use Rattle.numbers.specs.Numbers.{number_at}
 use Rattle.numbers.specs.Buffer.{over}
 use Rattle.numbers.proofs.NumberAt.{number_at_drop}
@@ -14,7 +13,7 @@ use Rattle.numbers.proofs.Over.{length_over}
 use Rattle.rules.specs.Sizes.{buffer_length}
 use Rattle.slots.specs.Slots.{slot_length, slots_length, Slots, Reads, Listed, frame_at, length_at}
 use Rattle.slots.proofs.Framed.{reads_fits}
-use Rattle.slot_moves.proofs.Writing.{paste_over, number_at_take, frame_at_before, frame_at_behind, frame_at_here, framed_slot}
+use Rattle.slot_moves.proofs.Writing.{number_at_take, frame_at_before, frame_at_behind, frame_at_here, framed_slot}
 
 -- the first slots hold the frames of the places, and the others their own
 pub record Moving (before places : List ℕ) (slot : ℕ) (slots : List ℕ) : Type 0 where
@@ -65,15 +64,7 @@ module _ (before places : List ℕ) (slot count : ℕ) (slots : List ℕ) (place
     abbrev bytes : List ℕ
     bytes = take (2 + size) (drop (place * slot_length) slots)
 
-    abbrev after : List ℕ
-    after = copy_within slots (place * slot_length) (place * slot_length + 2 + size) (slot * slot_length)
-
-    after_is : after ≡ over slots (slot * slot_length) bytes
-    after_is =
-        let n : place * slot_length + 2 + size - place * slot_length ≡ 2 + size = omega arith in
-        rw n (paste_over slots (slot * slot_length) (drop (place * slot_length) slots) (2 + size) (rw length-drop (omega (arith, place_within, moving.size))))
-
-    pub moving_moves : slot < place → Moving before places (slot + 1) after
+    pub moving_moves : slot < place → Moving before places (slot + 1) (over slots (slot * slot_length) bytes)
     moving_moves up =
         let from = drop (place * slot_length) slots in
         let within : place * slot_length + (2 + size) ≤ length slots = omega (arith, place_within, moving.size) in
@@ -81,7 +72,6 @@ module _ (before places : List ℕ) (slot count : ℕ) (slots : List ℕ) (place
         let room : slot * slot_length + length bytes ≤ length slots = omega arith in
         let number : number_at bytes 0 2 ≡ size
         = number_at_take (2 + size) from (omega arith) ∙ sym (number_at_drop slots (place * slot_length) 2) ∙ sym size_is in
-        rw after_is (
         one_more (over slots (slot * slot_length) bytes)
         (length_over slots (slot * slot_length) bytes room ∙ moving.size)
         (frame_at_here slots (slot * slot_length) bytes room slot refl (omega (arith, length-bytes, number))
@@ -90,4 +80,3 @@ module _ (before places : List ℕ) (slot count : ℕ) (slots : List ℕ) (place
         let read : Reads (frame_at slots k) = rw (moving.moved k l) (listed.reads k (omega (arith, lt))) in
         frame_at_before slots (slot * slot_length) bytes room k (omega arith) (reads_fits slots k read))
         (λ k l. frame_at_behind slots (slot * slot_length) bytes room k (omega (arith, length-bytes, short)))
-        )

@@ -1,10 +1,10 @@
 -- Laws of slots into which bytes were put: the frame there, and those before and behind. Assumes nothing.
 use mathlib.Core.Path.{◌≡◌, sym, ap, ◌∙◌}
 use mathlib.Core.List.{List, ◌++◌}
-use Prim.Native.Nat.{ℕ, ◌+◌, ◌-◌, ◌*◌, ◌≤◌}
+use Prim.Native.Nat.{ℕ, ◌+◌, ◌-◌, ◌*◌, ◌≤◌, ◌<◌}
 use native.Mathlib.Omega.{arith}
-use lib.ListN.{length, take, drop, length-append, length-drop}
-use lib.Seq.{paste, drop-drop, drop_at, take_all, take-take, take-append-le, drop-append-le, drop-append-add, length-take-le}
+use lib.ListN.{length, get_or, take, drop, length-append, length-drop}
+use lib.Seq.{paste, get_or-drop, drop-drop, drop_at, drop-paste, take_all, take-take, take-append-le, drop-append-le, drop-append-add, length-take-le}
 use Rattle.numbers.specs.Numbers.{big_endian, number, number_at}
 use Rattle.numbers.specs.Buffer.{over}
 use Rattle.numbers.proofs.BigEndian.{length-big_endian}
@@ -14,7 +14,20 @@ use Rattle.rules.specs.Sizes.{buffer_length}
 use Rattle.slots.specs.Slots.{slot_length, framed, frame_at, length_at}
 use Rattle.slots.proofs.Framed.{framed_short, drop-take}
 
--- ---- bytes that were copied
+-- ---- bytes that are moved to a place before them
+
+-- what a copy has not reached is as it was
+pub get_or_paste : (bs : List ℕ) (to from n : ℕ) → to ≤ from → from + n < length bs
+    → get_or (paste bs to (drop from bs) n) (from + n) 0 ≡ get_or (drop from bs) n 0
+get_or_paste bs to from n le lt =
+    let e : to + n + (from - to) ≡ from + n = omega arith in
+    let size : n ≤ length (drop from bs) = rw length-drop (omega arith) in
+    ap (λ (i : ℕ). get_or (paste bs to (drop from bs) n) i 0) (sym e)
+    ∙ sym (get_or-drop (to + n) (paste bs to (drop from bs) n) (from - to) 0)
+    ∙ ap (λ (l : List ℕ). get_or l (from - to) 0) (drop-paste bs to (drop from bs) n (omega arith) size)
+    ∙ get_or-drop (to + n) bs (from - to) 0
+    ∙ ap (λ (i : ℕ). get_or bs i 0) e
+    ∙ sym (get_or-drop from bs n 0)
 
 pub paste_over : (bs : List ℕ) (to : ℕ) (more : List ℕ) (n : ℕ) → n ≤ length more → paste bs to more n ≡ over bs to (take n more)
 unfolding over

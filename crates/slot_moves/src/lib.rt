@@ -2,11 +2,11 @@
 // Preconditions: slots, room and readable frames, which the calls of a panel have.
 #![tactic(auto)]
 
-ghost use Rattle.std.specs.Prelude.{◌≡◌, ◌++◌, ◌*◌, ◌≤◌, ◌<◌, length};
+ghost use Rattle.std.specs.Prelude.{◌≡◌, ◌++◌, ◌+◌, ◌*◌, ◌≤◌, ◌<◌, length, take, drop};
 ghost use Rattle.numbers.specs.Numbers.{big_endian};
 ghost use Rattle.numbers.specs.Buffer.{over};
 ghost use Rattle.rules.specs.Sizes.{buffer_length};
-ghost use Rattle.slots.specs.Slots.{slot_length, Slots, Listed};
+ghost use Rattle.slots.specs.Slots.{slot_length, slots_length, Slots, Listed};
 ghost use Rattle.slot_moves.specs.Moves.{Gathered};
 
 use numbers::{number_at, put_bytes, put_number};
@@ -23,6 +23,17 @@ pub fn put_frame(slots: &mut [u8], slot: usize, frame: &[u8])
     put_bytes(slots, at + 2, frame);
 }
 
+// Copies so many bytes to a place before them. (By a loop: of copy_within the compiler makes a memmove,
+// which the archive for C must not need.)
+fn move_bytes(slots: &mut [u8; SLOTS], to: usize, from: usize, count: usize)
+    requires { Slots slots.old × (to ≤ from) × (from + count ≤ slots_length) }
+    ensures { slots.new ≡ over slots.old to (take count (drop from slots.old)) }
+{
+    for i in 0..count {
+        slots[to + i] = slots[from + i];
+    }
+}
+
 // The frames in the slots listed move up to the first slots.
 pub fn gather(slots: &mut [u8; SLOTS], places: &[u8; 32], count: usize)
     requires { Slots slots.old × Listed slots.old count places.now }
@@ -33,7 +44,7 @@ pub fn gather(slots: &mut [u8; SLOTS], places: &[u8; 32], count: usize)
         if slot < place {
             let from = place * SLOT;
             let length = number_at(slots, from, 2) as usize;
-            slots.copy_within(from..from + 2 + length, slot * SLOT);
+            move_bytes(slots, slot * SLOT, from, 2 + length);
         }
     }
 }

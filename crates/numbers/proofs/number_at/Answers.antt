@@ -27,5 +27,5 @@ behind_zeros eight bs at width le room put =
 pub returns : goal.returns
 returns c =
     let a = c.args in
-    let read = c.from_be_bytes.ensures ∙ behind_zeros _ a.bytes.now a.at a.width c.requires.0 c.requires.1 c.put_bytes.ensures in
+    let read = c.from_be_bytes.ensures ∙ behind_zeros _ a.bytes.now a.at a.width c.requires.0 c.requires.1 c.put_part.ensures in
     (read, omega (arith, read, number_at_lt a.bytes.now a.at a.width (λ i. omega (arith, c.type_inv.bytes i)) c.requires.1))

@@ -11,5 +11,5 @@ pub returns : goal.returns
 returns c =
     let a = c.args in
     let last = λ (bs : List ℕ). take (8 - (8 - a.width)) (drop (8 - a.width) bs) in
-    c.put_bytes.ensures
+    c.put_part.ensures
     ∙ ap (over a.buffer.now a.at) (ap last c.to_be_bytes.ensures ∙ last_bytes a.width a.number c.requires.0 c.requires.2)

@@ -46,8 +46,8 @@ impl<'a> Entries<'a> {
         }
         let panel = u64::trailing_zeros(self.bits) as usize;
         let entry = number_at(self.message.frame, ENTRIES_AT + WIDTH * self.passed, WIDTH);
-        self.bits &= self.bits - 1;
         self.passed += 1;
+        self.bits &= self.bits - 1;
         Some((panel, entry))
     }
 }

@@ -72,3 +72,14 @@ present-take-le es s =
       ap length (present-append (take s es) (drop s es)),
       ap (λ (l : List ℕ). length (present l)) (take-append-drop s es),
     )
+
+-- as many as there are in all are all
+pub present_take_all : (es : List ℕ) (s : ℕ) → length (present es) ≤ length (present (take s es)) → present (take s es) ≡ present es
+present_take_all es s le = go (present (drop s es)) whole
+  where
+    whole : present (take s es) ++ present (drop s es) ≡ present es
+    whole = sym (present-append (take s es) (drop s es)) ∙ ap present (take-append-drop s es)
+
+    go : (rest : List ℕ) → present (take s es) ++ rest ≡ present es → present (take s es) ≡ present es
+    go [] e = sym (append-nil (present (take s es))) ∙ e
+    go (e ∷ rest) more = absurd (omega (arith, ap length more, length-append (present (take s es)) (e ∷ rest)))

@@ -13,7 +13,7 @@ use Rattle.numbers.proofs.BigEndian.{length-big_endian, length-big_endians, big_
 use Rattle.numbers.proofs.Over.{over-nil, over-over, length_over}
 use Rattle.frame.specs.Message.{present}
 use Rattle.frame.specs.Frame.{wide}
-use Rattle.writing.proofs.Entries.{present-take-none, present_take_entry, present-take-le}
+use Rattle.writing.proofs.Entries.{present-take-none, present_take_entry, present-take-le, present_take_all}
 
 -- the entries of the panels below s are in buffer, which was buffer₀, from place start on, and at is the place behind them
 pub record Put (width : ℕ) (buffer₀ : List ℕ) (start : ℕ) (es buffer : List ℕ) (at s : ℕ) : Type 0 where
@@ -28,8 +28,13 @@ module _ (width : ℕ) (buffer₀ : List ℕ) (start : ℕ) (es : List ℕ) wher
   put_none = record { below = omega arith; place = rw mul-zero (omega arith); bytes = sym (over-nil buffer₀ start); same = refl }
 
 module _ (buffer₀ : List ℕ) (start : ℕ) (es buffer : List ℕ) (at s : ℕ) (p : Put wide buffer₀ start es buffer at s) where
+  -- behind the last panel, and where as many are put as there are
   pub put_all : length es ≤ s → buffer ≡ over buffer₀ start (big_endians wide (present es))
   put_all h = p.bytes ∙ ap (λ (l : List ℕ). over buffer₀ start (big_endians wide (present l))) (take_all s es h)
+
+  pub put_many : at ≡ start + wide * length (present es) → buffer ≡ over buffer₀ start (big_endians wide (present es))
+  put_many h =
+      p.bytes ∙ ap (λ (l : List ℕ). over buffer₀ start (big_endians wide l)) (present_take_all es s (omega (arith, p.place)))
 
 module _ (width : ℕ) (buffer₀ : List ℕ) (start : ℕ) (es buffer : List ℕ) (at s : ℕ)
     (p : Put width buffer₀ start es buffer at s) (room : start + width * length (present es) ≤ length buffer₀) (more : s < length es) where

@@ -52,13 +52,16 @@ pub fn put_head(buffer: &mut [u8], source: u8, deadline: u64, mask: u64)
     put_number(buffer, MASK_AT, 8, mask);
 }
 
-// Puts the entries of the panels that have one, lowest panel first.
-fn put_entries(buffer: &mut [u8], entries: &[u64])
-    requires { 14 + wide + wide * length (present entries.now) ≤ length buffer.old }
+// Puts the entries of the panels that have one, lowest panel first, up to the place where they end.
+fn put_entries(buffer: &mut [u8], entries: &[u64], end: usize)
+    requires { (end ≡ 14 + wide + wide * length (present entries.now)) × (end ≤ length buffer.old) }
     ensures { buffer.new ≡ over buffer.old (14 + wide) (big_endians wide (present entries.now)) }
 {
     let mut at = ENTRIES_AT;
     for entry in entries {
+        if at == end {
+            return; // for speed: behind the last entry no panel is looked at
+        }
         if *entry != 0 {
             put_number(buffer, at, WIDTH, *entry);
             at += WIDTH;
@@ -101,7 +104,7 @@ pub fn write(
         return None;
     }
     put_head(buffer, source, deadline, mask);
-    put_entries(buffer, entries);
+    put_entries(buffer, entries, at);
     put_payload(buffer, at, payload);
     Some(length)
 }

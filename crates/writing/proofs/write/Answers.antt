@@ -48,7 +48,7 @@ put_entries-requires c =
     let a = c.args in
     let e : length a.entries.now ≡ 64 = search rules in
     let n = counted a.source a.deadline c.mask_of-mask.result a.entries.now a.payload.now e c.mask_of-mask.ensures in
-    omega (arith, n)
+    (omega (arith, n), omega arith)
 
 pub put_payload-requires : goal.put_payload-requires
 put_payload-requires c =

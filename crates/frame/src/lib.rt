@@ -53,16 +53,12 @@ pub fn deadline_in(frame: &[u8], version: Version) -> u64
     number_at(frame, DEADLINE_AT, 8) >> (64 - 8 * version.width())
 }
 
-// The entry at a place. (For speed each width stands in a call of its own: of each the compiler makes
-// one load.)
+// The entry at a place.
 pub fn entry_at(frame: &[u8], at: usize, version: Version) -> u64
     requires { at + width_of version ≤ length frame.now }
     ensures { result ≡ number_at frame.now at (width_of version) }
 {
-    match version {
-        Version::One => number_at(frame, at, NARROW),
-        Version::Two => number_at(frame, at, WIDTH),
-    }
+    number_at(frame, at, version.width())
 }
 
 // The number of entries: the count of ones in the mask.

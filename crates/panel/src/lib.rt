@@ -6,9 +6,12 @@ mod trace;
 
 ghost use Rattle.std.specs.Prelude.{◌≡◌};
 ghost use Rattle.rules.specs.Refusals.{fresh_number, fresh_record};
+ghost use Rattle.parts.specs.Answers.{answer_of};
 ghost use Rattle.panel.specs.Record.{record_of};
 
 use exports::panel_fresh_parts;
+use frame::Refusal;
+use parts::Accepted;
 use slots::SLOTS;
 pub use trace::panel_trace;
 
@@ -27,49 +30,45 @@ pub struct Panel {
     pub floor: u64,
 }
 
-// number is 0, or 11.
-#[repr(C)]
+// What a call by value gives back: the record, and what the call answers. After a refusal it is the very
+// record that was given.
 #[derive(Clone, Copy)]
-pub struct Fresh {
+pub struct Given {
     pub panel: Panel,
-    pub number: u8,
+    pub answer: Result<Accepted, Refusal>,
 }
 
-// A fresh panel; for a number above 63 it is panel 0, with 11.
-pub fn panel_fresh(number: u8) -> Fresh
-    ensures { (result.number ≡ fresh_number number) × (record_of result.panel ≡ fresh_record number) }
+// A fresh panel; for a number above 63 it is panel 0, with the refusal 11.
+pub fn panel_fresh(number: u8) -> Given
+    ensures { ((answer_of result.answer).number ≡ fresh_number number) × (record_of result.panel ≡ fresh_record number) }
 {
-    let mut own = 0;
-    let mut at = 0;
-    let mut high = 0;
-    let mut count = 0;
-    let mut marks = [0u64; 64];
-    let mut barrier = [0u64; 64];
-    let mut slots = [0u8; SLOTS];
-    let mut floor = 0;
-    let answer = panel_fresh_parts(
-        number,
-        &mut own,
-        &mut at,
-        &mut high,
-        &mut count,
-        &mut marks,
-        &mut barrier,
-        &mut slots,
-        &mut floor,
-    );
-    let panel = Panel {
-        own,
-        time: at,
-        high,
-        count,
-        marks,
-        barrier,
-        slots,
-        floor,
+    let mut panel = Panel {
+        own: 0,
+        time: 0,
+        high: 0,
+        count: 0,
+        marks: [0u64; 64],
+        barrier: [0u64; 64],
+        slots: [0u8; SLOTS],
+        floor: 0,
     };
-    Fresh {
-        panel,
-        number: answer,
-    }
+    let number = panel_fresh_parts(
+        number,
+        &mut panel.own,
+        &mut panel.time,
+        &mut panel.high,
+        &mut panel.count,
+        &mut panel.marks,
+        &mut panel.barrier,
+        &mut panel.slots,
+        &mut panel.floor,
+    );
+    let answer = match number {
+        0 => Ok(Accepted {
+            count: 0,
+            length: 0,
+        }),
+        _ => Err(Refusal::PanelNumber),
+    };
+    Given { panel, answer }
 }

@@ -1,2 +1,0 @@
--- A law of the calls that write no frame.
-pub mod Unframed

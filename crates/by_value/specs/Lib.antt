@@ -1,2 +1,0 @@
--- The answers of the calls by value.
-pub mod Answers

@@ -1,2 +1,0 @@
--- The answer of a send by value.
-pub mod Answer

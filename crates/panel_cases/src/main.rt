@@ -9,60 +9,38 @@ use panel::Panel;
 use parts::OUTPUT;
 use send_by_value::Sent;
 use std::io;
-use telling::{at, clock, fresh, print, print_answer, receive};
-
-fn wide(byte: u8) -> u64 {
-    byte as u64
-}
-
-// Two hexadecimal digits for each byte.
-fn print_bytes(rt: &impl Print, bytes: &[u8]) -> io::Result<()> {
-    for i in 0..bytes.len() {
-        let byte = wide(bytes[i]);
-        print!(rt; "{byte:02x}")?;
-    }
-    Ok(())
-}
-
-// The first bytes of a buffer, or none where there are fewer.
-fn first(buffer: &[u8], length: usize) -> &[u8] {
-    if buffer.len() < length {
-        return &buffer[0..0];
-    }
-    &buffer[0..length]
-}
+use telling::{Told, at, clock, fresh, receive};
 
 // What a send or a beacon has answered; then a fresh panel 0 receives the frame.
-fn pass_on(rt: &impl Print, label: &[u8], answer: Sent, buffer: &[u8]) -> io::Result<Panel> {
-    let panel = answer.panel;
-    let frame = first(buffer, answer.length);
-    print_answer(
-        rt,
-        label,
-        panel.own,
-        answer.number,
-        answer.count,
-        panel.count,
-    )?;
-    print(rt, b", frame ")?;
-    print_bytes(rt, frame)?;
-    print(rt, b"\n")?;
+fn pass_on(rt: &impl Print, call: &str, answer: Sent, buffer: &[u8]) -> io::Result<Panel> {
+    let told = Told {
+        call,
+        panel: &answer.panel,
+        number: answer.number,
+        handed: answer.count,
+    };
+    print!(rt; "{told}, frame ")?;
+    let frame = buffer.get(..answer.length).unwrap_or(&[]);
+    for byte in frame {
+        print!(rt; "{byte:02x}")?;
+    }
+    println!(rt)?;
     receive(rt, fresh(rt, 0)?, frame)?;
-    Ok(panel)
+    Ok(answer.panel)
 }
 
 fn send(rt: &impl Print, p: Panel, payload: &[u8], lifetime: u16) -> io::Result<Panel> {
     let mut output = [0u8; OUTPUT];
     let mut buffer = [0u8; BUFFER];
     let answer = send_by_value::panel_send(p, payload, lifetime, &mut output, &mut buffer);
-    pass_on(rt, b"send at panel ", answer, &buffer)
+    pass_on(rt, "send at", answer, &buffer)
 }
 
 fn beacon(rt: &impl Print, p: Panel, payload: &[u8]) -> io::Result<Panel> {
     let mut output = [0u8; OUTPUT];
     let mut buffer = [0u8; BUFFER];
     let answer = send_by_value::panel_beacon(p, payload, &mut output, &mut buffer);
-    pass_on(rt, b"beacon at panel ", answer, &buffer)
+    pass_on(rt, "beacon at", answer, &buffer)
 }
 
 // Case 2's frame in version 1, which waits, and then in version 2, which is the same message.
@@ -86,32 +64,24 @@ fn busy_yard(rt: &impl Print) -> io::Result<()> {
 
 fn main(rt: HostRuntime) -> io::Result<()> {
     let rt = &rt;
-    print(rt, b"cases 1 and 2\n")?;
+    println!(rt; "cases 1 and 2")?;
     send(rt, send(rt, at(rt, 3, 100)?, b"OK", 0)?, b"", 0)?;
-    print(rt, b"case 2's frame in version 1, and then in version 2\n")?;
+    println!(rt; "case 2's frame in version 1, and then in version 2")?;
     both_versions(rt)?;
-    print(rt, b"a beacon\n")?;
+    println!(rt; "a beacon")?;
     beacon(rt, at(rt, 3, 100)?, b"OK")?;
-    print(
-        rt,
-        b"beacons up to the last deadline, too far ahead for a fresh panel\n",
-    )?;
+    println!(rt; "beacons up to the last deadline, too far ahead for a fresh panel")?;
     beacon(rt, beacon(rt, at(rt, 3, 18446744073709550415)?, b"")?, b"")?;
-    print(
-        rt,
-        b"the busy yard: panel 2 has A and B in its log, and names B alone, which names A\n",
+    println!(rt;
+        "the busy yard: panel 2 has A and B in its log, and names B alone, which names A"
     )?;
     busy_yard(rt)?;
-    print(rt, b"case 6\n")?;
-    send(
-        rt,
-        send(rt, at(rt, 0, 18446744073709551614)?, b"", 1)?,
-        b"",
-        1,
-    )?;
-    print(rt, b"case 11\n")?;
+    println!(rt; "case 6")?;
+    let once = send(rt, at(rt, 0, 18446744073709551614)?, b"", 1)?;
+    send(rt, once, b"", 1)?;
+    println!(rt; "case 11")?;
     clock(rt, clock(rt, at(rt, 0, 50)?, 50)?, 49)?;
-    print(rt, b"a panel number above 63\n")?;
+    println!(rt; "a panel number above 63")?;
     fresh(rt, 64)?;
     Ok(())
 }

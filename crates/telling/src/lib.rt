@@ -5,104 +5,83 @@
 
 use panel::Panel;
 use parts::OUTPUT;
-use std::io;
-use std::io::Write;
-use tracing::Trace;
+use std::{fmt, io};
 
-pub fn print(rt: &impl Print, text: &[u8]) -> io::Result<()> {
-    io::writer(rt).write_all(text)
+// What a call has answered, and the panel after it.
+#[derive(Clone, Copy)]
+pub struct Told<'a> {
+    pub call: &'a str,
+    pub panel: &'a Panel,
+    pub number: u8,
+    pub handed: usize,
 }
 
-// A label, and a number in decimal.
-fn print_item(rt: &impl Print, label: &[u8], number: u64) -> io::Result<()> {
-    print(rt, label)?;
-    print!(rt; "{number}")
-}
-
-// The panel, the number of the answer, and the counts of log records and of waiting messages.
-pub fn print_answer(
-    rt: &impl Print,
-    label: &[u8],
-    own: u8,
-    number: u8,
-    count: usize,
-    waiting: usize,
-) -> io::Result<()> {
-    print_item(rt, label, own as u64)?;
-    print_item(rt, b": ", number as u64)?;
-    print_item(rt, b", handed ", count as u64)?;
-    print_item(rt, b", waiting ", waiting as u64)
+impl fmt::Display for Told<'_> {
+    fn fmt<W: fmt::Write>(&self, f: &mut fmt::Formatter<W>) -> fmt::Result {
+        write!(
+            f,
+            "{} panel {}: {}, handed {}, waiting {}",
+            self.call, self.panel.own, self.number, self.handed, self.panel.count,
+        )
+    }
 }
 
 pub fn fresh(rt: &impl Print, own: u8) -> io::Result<Panel> {
     let answer = panel::panel_fresh(own);
-    let p = answer.panel;
-    print_answer(rt, b"fresh panel ", p.own, answer.number, 0, p.count)?;
-    print(rt, b"\n")?;
-    Ok(p)
-}
-
-// What a trace shows of a frame.
-fn print_trace(rt: &impl Print, shown: Trace) -> io::Result<()> {
-    print_item(rt, b"trace: ", shown.number as u64)?;
-    if shown.ready {
-        print(rt, b", ready")?;
-    }
-    print_item(rt, b", visited ", shown.visited as u64)?;
-    print(rt, b"\n")
+    let told = Told {
+        call: "fresh",
+        panel: &answer.panel,
+        number: answer.number,
+        handed: 0,
+    };
+    println!(rt; "{told}")?;
+    Ok(answer.panel)
 }
 
 // A trace of a frame, and then its receive.
 pub fn receive(rt: &impl Print, p: Panel, frame: &[u8]) -> io::Result<Panel> {
-    print_trace(rt, panel::panel_trace(p, frame))?;
+    let trace = panel::panel_trace(p, frame);
+    let ready = if trace.ready { ", ready" } else { "" };
+    println!(rt; "trace: {}{ready}, visited {}", trace.number, trace.visited)?;
     let mut output = [0u8; OUTPUT];
     let answer = by_value::panel_receive(p, frame, &mut output);
-    let panel = answer.panel;
-    print_answer(
-        rt,
-        b"receive at panel ",
-        panel.own,
-        answer.number,
-        answer.count,
-        panel.count,
-    )?;
-    print(rt, b"\n")?;
-    Ok(panel)
+    let told = Told {
+        call: "receive at",
+        panel: &answer.panel,
+        number: answer.number,
+        handed: answer.count,
+    };
+    println!(rt; "{told}")?;
+    Ok(answer.panel)
 }
 
 pub fn clock(rt: &impl Print, p: Panel, time: u64) -> io::Result<Panel> {
     let mut output = [0u8; OUTPUT];
     let answer = by_value::panel_clock(p, time, &mut output);
-    let panel = answer.panel;
-    print_answer(
-        rt,
-        b"clock at panel ",
-        panel.own,
-        answer.number,
-        answer.count,
-        panel.count,
-    )?;
-    print_item(rt, b", time ", panel.time)?;
-    print(rt, b"\n")?;
-    Ok(panel)
+    let told = Told {
+        call: "clock at",
+        panel: &answer.panel,
+        number: answer.number,
+        handed: answer.count,
+    };
+    println!(rt; "{told}, time {}", answer.panel.time)?;
+    Ok(answer.panel)
 }
 
 // The time after it, and the floor, which it leaves.
 pub fn set_back(rt: &impl Print, p: Panel, reading: u64) -> io::Result<Panel> {
     let answer = by_value::panel_set_back(p, reading);
-    let panel = answer.panel;
-    print_answer(
-        rt,
-        b"set back at panel ",
-        panel.own,
-        answer.number,
-        0,
-        panel.count,
+    let told = Told {
+        call: "set back at",
+        panel: &answer.panel,
+        number: answer.number,
+        handed: 0,
+    };
+    println!(rt;
+        "{told}, time {}, floor {}",
+        answer.panel.time, answer.panel.floor
     )?;
-    print_item(rt, b", time ", panel.time)?;
-    print_item(rt, b", floor ", panel.floor)?;
-    print(rt, b"\n")?;
-    Ok(panel)
+    Ok(answer.panel)
 }
 
 // A fresh panel whose clock shows a time.

@@ -6,7 +6,7 @@
 #![tactic(auto)]
 
 use std::io;
-use telling::{at, clock, print, receive, set_back};
+use telling::{at, clock, receive, set_back};
 
 fn main(rt: HostRuntime) -> io::Result<()> {
     let rt = &rt;
@@ -15,25 +15,22 @@ fn main(rt: HostRuntime) -> io::Result<()> {
         b"DRY\x00\x01\x05\x00\x00\x05\x15\x00\x00\x00\x00\x00\x00\x00\x08\x00\x00\x05\x14\x00";
     let later =
         b"DRY\x00\x02\x06\x00\x00\x00\x00\x00\x00\x07\xd0\x00\x00\x00\x00\x00\x00\x00\x00\x00";
-    print(
-        rt,
-        b"\"hold lifted\" waits for the hold, 1300, until that has lapsed\n",
-    )?;
+    println!(rt; "\"hold lifted\" waits for the hold, 1300, until that has lapsed")?;
     let waiting = receive(rt, at(rt, 0, 100)?, lifted)?;
     let without = clock(rt, waiting, 1301)?;
-    print(rt, b"a wrong year: the panel is deaf\n")?;
+    println!(rt; "a wrong year: the panel is deaf")?;
     let deaf = receive(rt, clock(rt, without, 4000000000)?, later)?;
-    print(rt, b"a clock call can't set it back\n")?;
+    println!(rt; "a clock call can't set it back")?;
     let still = clock(rt, deaf, 100)?;
-    print(rt, b"a set-back call can\n")?;
+    println!(rt; "a set-back call can")?;
     let back = set_back(rt, still, 100)?;
-    print(rt, b"the log went without the hold, and does so for good\n")?;
+    println!(rt; "the log went without the hold, and does so for good")?;
     let refused = receive(rt, back, hold)?;
-    print(rt, b"what comes later is taken\n")?;
+    println!(rt; "what comes later is taken")?;
     let mut taken = receive(rt, refused, later)?;
-    print(rt, b"a reading above the time leaves it\n")?;
+    println!(rt; "a reading above the time leaves it")?;
     set_back(rt, taken, 200)?;
-    print(rt, b"a broken record is refused\n")?;
+    println!(rt; "a broken record is refused")?;
     taken.own = 64;
     set_back(rt, taken, 50)?;
     Ok(())

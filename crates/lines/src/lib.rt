@@ -1,67 +1,78 @@
-// The lines that the program "list" prints, put into a buffer. Each function gives the place behind
-// what it has put. An internal crate. Precondition: room in the buffer.
+// The lines that the program "list" prints, put behind a text of fixed capacity. An internal crate.
+// Precondition: room in the text.
 #![tactic(auto)]
 
-ghost use Rattle.std.specs.Prelude.{◌+◌, ◌*◌, ◌≤◌, length};
+ghost use Rattle.std.specs.Prelude.{◌≡◌, ◌++◌, ◌+◌, ◌*◌, ◌≤◌, length};
 ghost use Rattle.log_records.specs.LogRecords.{log_record_at};
-ghost use Rattle.text.specs.Put.{Room, Put};
-ghost use Rattle.lines.specs.Lines.{frame_line, payload_text, hand_line, hand_lines};
+ghost use Rattle.arrayvec.specs.ArrayString.{array_string_len};
+ghost use Rattle.lines.specs.Lines.{outcome, frame_line, payload_text, hand_line, hand_lines};
 
+use arrayvec::ArrayString;
 use log_records::{log_payload, panel_log_fields};
-use text::{put_hexadecimal, put_item, put_start, put_words};
+use text::{put_decimal, put_hexadecimal};
 
-// Puts the line of a frame: its number from 1, and what was answered, `taken` for 0.
-pub fn put_frame_line(text: &mut [u8], at: usize, frame: u64, number: u8) -> usize
-    requires { Room text.old at 48 }
-    ensures { Put text.old at (frame_line frame number) text.new result × (result ≤ at + 48) }
+// Puts what was answered, `taken` for 0.
+fn put_outcome<const CAP: usize>(text: &mut ArrayString<CAP>, number: u8)
+    requires { array_string_len text.old + 20 ≤ CAP }
+    ensures bytes { text.new.bytes ≡ text.old.bytes ++ outcome number }
+    ensures short { array_string_len text.new ≤ array_string_len text.old + 20 }
 {
-    let behind = put_start(text, at, b"frame ", frame);
     if number == 0 {
-        return put_words(text, behind, b"taken\n");
+        text.push_str("taken");
+    } else {
+        put_decimal(text, u64::from(number));
     }
-    put_item(text, behind, number as u64, b'\n')
+}
+
+// Puts the line of a frame: its number from 1, and what was answered.
+pub fn put_frame_line<const CAP: usize>(text: &mut ArrayString<CAP>, frame: u64, number: u8)
+    requires { array_string_len text.old + 48 ≤ CAP }
+    ensures bytes { text.new.bytes ≡ text.old.bytes ++ frame_line frame number }
+    ensures short { array_string_len text.new ≤ array_string_len text.old + 48 }
+{
+    text.push_str("frame ");
+    put_decimal(text, frame);
+    text.push_str(" ");
+    put_outcome(text, number);
+    text.push_str("\n");
 }
 
 // Puts a payload in hexadecimal, or `-` for an empty one.
-fn put_payload<'a, 'b>(text: &'a mut [u8], at: usize, payload: &'b [u8]) -> usize
-    requires { Room text.old at 64 × (length payload.now ≤ 32) }
-    ensures { Put text.old at (payload_text payload.now) text.new result × (result ≤ at + 64) }
+fn put_payload<const CAP: usize>(text: &mut ArrayString<CAP>, payload: &[u8])
+    requires { (array_string_len text.old + 64 ≤ CAP) × (length payload.now ≤ 32) }
+    ensures bytes { text.new.bytes ≡ text.old.bytes ++ payload_text payload.now }
+    ensures short { array_string_len text.new ≤ array_string_len text.old + 64 }
 {
-    if payload.len() == 0 {
-        text[at] = b'-';
-        return at + 1;
+    if payload.is_empty() {
+        text.push_str("-");
+    } else {
+        put_hexadecimal(text, payload);
     }
-    put_hexadecimal(text, at, payload)
 }
 
 // Puts the line of the log record of that index.
-fn put_hand_line<'a, 'b>(text: &'a mut [u8], at: usize, output: &'b [u8], index: usize) -> usize
-    requires { Room text.old at 112 }
-    ensures { Put text.old at (hand_line (log_record_at output.now index)) text.new result × (result ≤ at + 112) }
+fn put_hand_line<const CAP: usize>(text: &mut ArrayString<CAP>, output: &[u8], index: usize)
+    requires { array_string_len text.old + 112 ≤ CAP }
+    ensures bytes { text.new.bytes ≡ text.old.bytes ++ hand_line (log_record_at output.now index) }
+    ensures short { array_string_len text.new ≤ array_string_len text.old + 112 }
 {
     let fields = panel_log_fields(output, index);
-    let mut behind = put_start(text, at, b"hand ", fields.source as u64);
-    behind = put_item(text, behind, fields.deadline, b' ');
-    behind = put_payload(text, behind, log_payload(output, index));
-    text[behind] = b'\n';
-    behind + 1
+    text.push_str("hand ");
+    put_decimal(text, u64::from(fields.source));
+    text.push_str(" ");
+    put_decimal(text, fields.deadline);
+    text.push_str(" ");
+    put_payload(text, log_payload(output, index));
+    text.push_str("\n");
 }
 
 // Puts the lines of so many log records at the start of an output.
-pub fn put_hand_lines<'a, 'b>(
-    text: &'a mut [u8],
-    at: usize,
-    output: &'b [u8],
-    count: usize,
-) -> usize
-    requires { Room text.old at (count * 112) }
-    ensures { Put text.old at (hand_lines count output.now) text.new result × (result ≤ at + count * 112) }
+pub fn put_hand_lines<const CAP: usize>(text: &mut ArrayString<CAP>, output: &[u8], count: usize)
+    requires { array_string_len text.old + count * 112 ≤ CAP }
+    ensures bytes { text.new.bytes ≡ text.old.bytes ++ hand_lines count output.now }
+    ensures short { array_string_len text.new ≤ array_string_len text.old + count * 112 }
 {
-    let mut behind = at;
-    let mut i = 0;
-    while i < count {
-        behind = put_hand_line(text, behind, output, i);
-        i += 1;
+    for index in 0..count {
+        put_hand_line(text, output, index);
     }
-    behind
 }

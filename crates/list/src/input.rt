@@ -6,6 +6,7 @@ ghost use Rattle.std.specs.Io.KnownBytes.{Appends};
 ghost use Rattle.listing.specs.Listing.{listing as listingOf};
 ghost use Rattle.list.specs.Written.{BytesAt, AppendsSome};
 
+use arrayvec::ArrayString;
 use listing::start;
 use listing_parts::list_part;
 use slots::SLOTS;
@@ -16,7 +17,7 @@ use std::io::{ErrorKind, Read, Write};
 const LONGEST: usize = 65535;
 
 // Writes all the bytes, however many the writer takes at a time. Where a write fails, the writer has got
-// those before.
+// those before, which `write_all` doesn't promise.
 fn write_whole<W: Write>(writer: &mut W, bytes: &[u8]) -> io::Result<()>
     ensures ok { OnOk result (Appends (W.contents writer.old) (W.contents writer.new) bytes.now) }
     ensures err { OnErr result (AppendsSome (W.contents writer.old) (W.contents writer.new) bytes.now) }
@@ -38,14 +39,14 @@ fn write_part<'a, 'b, 'c, W: Write>(
     writer: &'a mut W,
     input: &'b [u8],
     written: usize,
-    part: &'c [u8],
+    part: &'c str,
 ) -> io::Result<usize>
     requires { BytesAt (listingOf input.now) written part.now }
     ensures place { IfOk result (λ n. n ≡ written + length part.now) }
     ensures bytes { OnOk result (Appends (W.contents writer.old) (W.contents writer.new) part.now) }
     ensures err { OnErr result (AppendsSome (W.contents writer.old) (W.contents writer.new) part.now) }
 {
-    write_whole(writer, part)?;
+    write_whole(writer, part.as_bytes())?;
     Ok(written + part.len())
 }
 
@@ -59,7 +60,7 @@ fn print_listing<W: Write>(writer: &mut W, input: &[u8]) -> io::Result<usize>
         (listingOf input.now)) }
 {
     if LONGEST < input.len() {
-        return write_part(writer, input, 0, b"long\n");
+        return write_part(writer, input, 0, "long\n");
     }
     let mut high = 0;
     let mut count = 0;
@@ -67,11 +68,11 @@ fn print_listing<W: Write>(writer: &mut W, input: &[u8]) -> io::Result<usize>
     let mut barrier = [0u64; 64];
     let mut slots = [0u8; SLOTS];
     let mut floor = 0;
-    let mut text = [0u8; 16384];
-    let mut listing = start();
+    let mut text = ArrayString::<16384>::new();
+    let mut next = Some(start());
     let mut written = 0;
-    while listing.more {
-        listing = list_part(
+    while let Some(listing) = next {
+        next = list_part(
             0,
             0,
             &mut high,
@@ -84,13 +85,13 @@ fn print_listing<W: Write>(writer: &mut W, input: &[u8]) -> io::Result<usize>
             listing,
             &mut text,
         );
-        let at = listing.at;
-        written = write_part(writer, input, written, &text[..at])?;
+        written = write_part(writer, input, written, text.as_str())?;
     }
     Ok(written)
 }
 
-// Reads until the buffer is full or the input ends, and gives how many bytes it put at the buffer's start.
+// Reads until the buffer is full or the input ends, and gives how many bytes it put at the buffer's start:
+// `read_exact` says nothing of them where there are fewer, and `read_to_end` takes the heap.
 fn read_full<R: Read>(reader: &mut R, buffer: &mut [u8]) -> io::Result<usize>
     ensures within { IfOk result (λ n. n ≤ length buffer.new) }
     ensures bytes { IfOk result (λ n. IfSome (R.remaining reader.old)

@@ -1,24 +1,20 @@
 -- What one step of the listing promises.
-use Rattle.std.specs.Prelude.{ℕ, ◌+◌, ◌≤◌, ◌<◌, ◌≡◌, Bool, true, false, List, length}
+use Rattle.std.specs.Prelude.{ℕ, ◌+◌, ◌≤◌, ◌<◌, ◌≡◌, List, ◌++◌, length, Option, IfSome, is_some}
 use Rattle.bundle.specs.Bundle.{step_at}
 use Rattle.rules.specs.Panel.{Panel}
-use Rattle.text.specs.Put.{Put}
 use Rattle.listing.specs.declared.Listing.{Listing}
 use Rattle.listing.specs.Listing.{State, lines_at, state_after, goes_on}
 
--- where the listing stands: the panel's record, and what the struct says
+-- where the listing stands: the panel's record, and what the struct says, or None where it has ended
 pub record Standing : Type 0 where
   pub panel : Panel
-  pub place : ℕ
-  pub frames : ℕ
-  pub at : ℕ
-  pub more : Bool
+  pub next : Option Listing
 
-abbrev pub standing : Panel → Listing → Standing
-standing p l = record { panel = p; place = l.place; frames = l.frames; at = l.at; more = l.more }
+abbrev pub standing : Panel → Option Listing → Standing
+standing p next = record { panel = p; next = next }
 
-abbrev pub state_of : Standing → State
-state_of s = record { panel = s.panel; place = s.place; frames = s.frames }
+abbrev pub state_at : Panel → Listing → State
+state_at p l = record { panel = p; place = l.place; frames = l.frames }
 
 -- the place is in the bundle, behind at least as many bytes as frames
 pub record Placed (bundle : List ℕ) (place frames : ℕ) : Type 0 where
@@ -29,18 +25,12 @@ pub record Placed (bundle : List ℕ) (place frames : ℕ) : Type 0 where
 abbrev pub step_room : ℕ
 step_room = 4096
 
--- what a step gives: the lines are put, the listing stands where they end, and goes on with a place further on
-pub record Stepped (bundle : List ℕ) (given : Standing) (text : List ℕ) (s : Standing) (after : List ℕ) : Type 0 where
-  pub lines : Put text given.at (lines_at bundle (state_of given)) after s.at
-  pub state : state_of s ≡ state_after bundle (state_of given)
-  pub more : s.more ≡ goes_on (step_at bundle given.place)
-  pub short : s.at ≤ given.at + step_room
-  pub placed : Placed bundle s.place s.frames
-  pub further : s.more ≡ true → given.place < s.place
-
--- what putting the last line gives: the listing stands where it stood, and does not go on
-pub record Ended (given : Listing) (text line : List ℕ) (l : Listing) (after : List ℕ) : Type 0 where
-  pub lines : Put text given.at line after l.at
-  pub place : l.place ≡ given.place
-  pub frames : l.frames ≡ given.frames
-  pub more : l.more ≡ false
+-- what a step gives: the lines are put, and the listing goes on with a place further on, or ends
+pub record Stepped (bundle : List ℕ) (given : State) (text : List ℕ) (s : Standing) (after : List ℕ) : Type 0 where
+  pub lines : after ≡ text ++ lines_at bundle given
+  pub panel : s.panel ≡ (state_after bundle given).panel
+  pub state : IfSome s.next (λ l. state_at s.panel l ≡ state_after bundle given)
+  pub more : is_some s.next ≡ goes_on (step_at bundle given.place)
+  pub short : length after ≤ length text + step_room
+  pub placed : IfSome s.next (λ l. Placed bundle l.place l.frames)
+  pub further : IfSome s.next (λ l. given.place < l.place)

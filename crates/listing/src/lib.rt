@@ -2,59 +2,41 @@
 // lines. An internal crate. Precondition: a place in the bundle, and room for a step's lines.
 #![tactic(auto)]
 
-ghost use Rattle.std.specs.Prelude.{◌≡◌, true, length};
+ghost use Rattle.std.specs.Prelude.{◌≡◌, ◌+◌, ◌≤◌};
+ghost use Rattle.arrayvec.specs.ArrayString.{array_string_len};
 ghost use Rattle.lent.specs.Record.{parts, record_of};
-ghost use Rattle.text.specs.Put.{Room};
-ghost use Rattle.listing.specs.Step.{step_room, standing, Placed, Stepped, Ended};
+ghost use Rattle.listing.specs.Step.{step_room, standing, state_at, Placed, Stepped};
 
+use arrayvec::ArrayString;
 use bundle::{Step, part_at, step_at};
 use lines::{put_frame_line, put_hand_lines};
 use parts::OUTPUT;
 use receiving::receive_in_place;
 use slots::SLOTS;
-use text::put_words;
 
 // The bytes that the longest lines of a step have room in.
 pub const STEP_ROOM: usize = 4096;
 
-// Where the listing stands, beside its panel: the place in the bundle, the frames so far, the place
-// behind the text put so far, and whether it goes on.
+// Where the listing stands, beside its panel: the place in the bundle, and the frames so far.
 #[derive(Clone, Copy)]
 pub struct Listing {
     pub place: usize,
     pub frames: usize,
-    pub at: usize,
-    pub more: bool,
 }
 
-// At the start of a bundle and of a buffer.
+// At the start of a bundle.
 pub fn start() -> Listing
-    ensures { (result.place ≡ 0) × (result.frames ≡ 0) × (result.more ≡ true) }
+    ensures { (result.place ≡ 0) × (result.frames ≡ 0) }
 {
     Listing {
         place: 0,
         frames: 0,
-        at: 0,
-        more: true,
     }
 }
 
-// Puts the last line.
-fn last<'a, 'b>(listing: Listing, text: &'a mut [u8], line: &'b [u8]) -> Listing
-    requires { Room text.old listing.at (length line.now) }
-    ensures { Ended listing text.old line.now result text.new }
-{
-    let at = put_words(text, listing.at, line);
-    Listing {
-        place: listing.place,
-        frames: listing.frames,
-        at,
-        more: false,
-    }
-}
-
-// One step: the lines of the next frame, or the last line.
-pub fn list_next(
+// One step: puts the lines of the next frame and gives where the listing then stands, or puts the last
+// line and gives none.
+pub fn list_next<const CAP: usize>(
     own: u8,
     time: u64,
     high: &mut u64,
@@ -65,17 +47,16 @@ pub fn list_next(
     floor: &mut u64,
     bundle: &[u8],
     listing: Listing,
-    text: &mut [u8],
-) -> Listing
-    requires { Placed bundle.now listing.place listing.frames × Room text.old listing.at step_room }
+    text: &mut ArrayString<CAP>,
+) -> Option<Listing>
+    requires { Placed bundle.now listing.place listing.frames × (array_string_len text.old + step_room ≤ CAP) }
     ensures { Stepped bundle.now
-        (standing (record_of (parts own time high.old count.old marks.old barrier.old slots.old floor.old)) listing)
-        text.old
+        (state_at (record_of (parts own time high.old count.old marks.old barrier.old slots.old floor.old)) listing)
+        text.old.bytes
         (standing (record_of (parts own time high.new count.new marks.new barrier.new slots.new floor.new)) result)
-        text.new }
+        text.new.bytes }
 {
-    let place = listing.place;
-    match step_at(bundle, place) {
+    match step_at(bundle, listing.place) {
         Step::Frame {
             start: _,
             length: _,
@@ -91,20 +72,24 @@ pub fn list_next(
                 barrier,
                 slots,
                 floor,
-                part_at(bundle, place),
+                part_at(bundle, listing.place),
                 &mut output,
             );
             let frames = listing.frames + 1;
-            let line = put_frame_line(text, listing.at, frames as u64, answer.number);
-            let at = put_hand_lines(text, line, &output, answer.count);
-            Listing {
+            put_frame_line(text, frames as u64, answer.number);
+            put_hand_lines(text, &output, answer.count);
+            Some(Listing {
                 place: next,
                 frames,
-                at,
-                more: true,
-            }
+            })
         }
-        Step::End => last(listing, text, b"end\n"),
-        Step::Broken => last(listing, text, b"broken\n"),
+        Step::End => {
+            text.push_str("end\n");
+            None
+        }
+        Step::Broken => {
+            text.push_str("broken\n");
+            None
+        }
     }
 }

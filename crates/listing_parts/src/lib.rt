@@ -1,17 +1,18 @@
-// The listing of a bundle, part after part: a part is the lines of the steps that a lent buffer has room
+// The listing of a bundle, part after part: a part is the lines of the steps that a lent text has room
 // for, which the program "list" writes. An internal crate. Precondition: a place in the bundle.
 #![tactic(auto)]
 
 ghost use Rattle.lent.specs.Record.{parts, record_of};
-ghost use Rattle.listing.specs.Step.{standing, Placed};
+ghost use Rattle.listing.specs.Step.{standing, state_at, Placed};
 ghost use Rattle.listing_parts.specs.Part.{PartPut};
 
+use arrayvec::ArrayString;
 use listing::{Listing, STEP_ROOM, list_next};
 use slots::SLOTS;
 
-// Puts a part of the listing at the start of the buffer: the lines of step after step, while the
-// listing goes on and there is room for a step's lines. The listing then stands behind that part.
-pub fn list_part(
+// Puts a part of the listing into the text: the lines of step after step, while the listing goes on and
+// there is room for a step's lines. Gives where the listing then stands, or none where it has ended.
+pub fn list_part<const CAP: usize>(
     own: u8,
     time: u64,
     high: &mut u64,
@@ -21,25 +22,21 @@ pub fn list_part(
     slots: &mut [u8; SLOTS],
     floor: &mut u64,
     bundle: &[u8],
-    listing: Listing,
-    text: &mut [u8],
-) -> Listing
+    mut listing: Listing,
+    text: &mut ArrayString<CAP>,
+) -> Option<Listing>
     requires { Placed bundle.now listing.place listing.frames }
     ensures { PartPut bundle.now
-        (standing (record_of (parts own time high.old count.old marks.old barrier.old slots.old floor.old)) listing)
-        text.old
+        (state_at (record_of (parts own time high.old count.old marks.old barrier.old slots.old floor.old)) listing)
+        CAP
         (standing (record_of (parts own time high.new count.new marks.new barrier.new slots.new floor.new)) result)
-        text.new }
+        text.new.bytes }
 {
-    let mut part = listing;
-    part.at = 0;
-    while part.more {
-        if text.len() < part.at + STEP_ROOM {
-            return part;
-        }
-        part = list_next(
-            own, time, high, count, marks, barrier, slots, floor, bundle, part, text,
-        );
+    text.clear();
+    while text.remaining_capacity() >= STEP_ROOM {
+        listing = list_next(
+            own, time, high, count, marks, barrier, slots, floor, bundle, listing, text,
+        )?;
     }
-    part
+    Some(listing)
 }

@@ -1,15 +1,14 @@
--- Numbers in decimal: how a number's digits end, and that there are at most 20.
+-- Numbers in decimal: how a number's digits end, and that they are those that the library prints.
 use mathlib.Core.Path.{◌≡◌, refl, sym, ap, ◌∙◌}
 use mathlib.Core.Bool.{Bool, true, false, cond}
 use mathlib.Core.List.{List, [], ◌∷◌, ◌++◌}
 use Prim.Native.Nat.{ℕ, zero, suc, ◌+◌, ◌*◌, ◌/◌, ◌%◌, ◌^◌, ◌≤◌, ◌<◌}
 use native.Mathlib.Omega.{arith}
 use lib.Dec.{ltb}
-use lib.ListN.{length, set, length-append}
 use borrow.Author.Tests.{lt-ltb, le-ltb, ltb-true, ltb-false}
+use Rattle.std.specs.Fmt as printed
+use Rattle.std.proofs.lemmas.Fmt.{decimal_by_steps}
 use Rattle.text.specs.Text.{digit, decimal_in, decimal}
-use Rattle.text.specs.Put.{Put}
-use Rattle.text.proofs.Puts.{put_set, put_next}
 
 -- below 10 one digit will do
 pub decimal_in_small : (most n : ℕ) → n < 10 → decimal_in (suc most) n ≡ digit n ∷ []
@@ -51,30 +50,13 @@ module _ (n : ℕ) where
   decimal_more large fits =
       decimal_in_more 19 n large ∙ ap (λ (text : List ℕ). text ++ (digit (n % 10) ∷ [])) (sym (decimal_in-suc 18 (n / 10) (omega arith)))
 
-pub length-decimal_in : (most n : ℕ) → length (decimal_in most n) ≤ most
-unfolding decimal_in
-length-decimal_in zero n = omega arith
-length-decimal_in (suc most) n = go (ltb n 10) (length-decimal_in most (n / 10))
-  where
-    go : (b : Bool) → length (decimal_in most (n / 10)) ≤ most
-        → length (cond b (digit n ∷ []) (decimal_in most (n / 10) ++ (digit (n % 10) ∷ []))) ≤ suc most
-    go true tenth = omega arith
-    go false tenth = rw length-append (omega arith)
-
--- the only digit of a number below 10 is put
-pub put_only_digit : {text : List ℕ} {at : ℕ} (n only : ℕ) → n < 10 → at < length text → only ≡ digit n
-    → Put text at (decimal n) (set text at only) (at + 1)
-put_only_digit n only small room e = rw (decimal_small n small, ← e) (put_set _ _ only room)
-
--- the digits of a number's tenth part are put, then its last digit
-pub put_last_digit : {text others : List ℕ} {at behind : ℕ} (n last : ℕ) → 10 ≤ n → n < 2 ^ 64 → behind < length text → last ≡ digit (n % 10)
-    → Put text at (decimal (n / 10)) others behind
-    → Put text at (decimal n) (set others behind last) (behind + 1)
-put_last_digit n last large fits room e first = rw (decimal_more n large fits, ← e) (put_next last room first)
-
--- which leaves room for the last one
-pub tenth_short : (n : ℕ) → 10 ≤ n → n < 2 ^ 64 → length (decimal (n / 10)) < 20
-tenth_short n large fits =
-    let all = length-decimal_in 20 n in
-    let parts = ap length (decimal_more n large fits) ∙ length-append (decimal (n / 10)) (digit (n % 10) ∷ []) in
-    omega arith
+-- the digits that the library prints
+pub decimal_printed : (n : ℕ) → n < 2 ^ 64 → printed.decimal n ≡ decimal n
+unfolding digit
+decimal_printed n fits =
+    decimal_by_steps (λ (m : ℕ) (ds : List ℕ). m < 2 ^ 64 → ds ≡ decimal m)
+    (λ m small _. sym (decimal_small m small ∙ simp (lt-ltb _ _ small)))
+    (λ m ds large tenth below.
+      ap (λ (text : List ℕ). text ++ ((48 + m % 10) ∷ [])) (tenth (omega arith))
+      ∙ sym (decimal_more m large below ∙ simp (lt-ltb (m % 10) 10 (omega arith))))
+    n fits fits

@@ -1,4 +1,3 @@
--- The laws of text and of text put into a buffer.
-pub mod Puts
+-- The laws of numbers and bytes as text.
 pub mod Decimal
 pub mod Hexadecimal

@@ -1,3 +1,2 @@
--- Words, numbers and bytes as text, and what a buffer holds after text has been put into it.
+-- Words, numbers and bytes as text.
 pub mod Text
-pub mod Put

@@ -1,15 +1,14 @@
 -- `lines::put_payload` meets its contract. Assumes nothing.
-use native.Mathlib.Omega.{arith}
+use Rattle.std.proofs.Common.{ap, ◌∙◌, ◌++◌, List, ℕ, rules}
 use Rattle.text.specs.Text.{ascii}
-use Rattle.text.proofs.Puts.{put_set}
 use Rattle.lines.proofs.Lines.{payload_text-none, payload_text-some}
 use Rattle.lines.proofs.put_payload.Goals as goal
 
-pub returns-then-payload-eq0 : goal.returns-then-payload-eq0
+pub returns-then-is_empty-clause-bytes : goal.returns-then-is_empty-clause-bytes
 unfolding ascii
-returns-then-payload-eq0 c = (rw (payload_text-none _ c.if-payload-eq0.true) (put_set _ _ _ (omega arith)), omega arith)
+returns-then-is_empty-clause-bytes g c =
+    c.push_str.ensures.bytes ∙ ap (λ (t : List ℕ). c.args.text.now.bytes ++ t) (payload_text-none c.args.payload.now (search rules))
 
-pub returns : goal.returns
-returns c =
-    let put = c.put_hexadecimal.ensures in
-    (rw (payload_text-some _ c.if-payload-eq0.false) put.0, omega (arith, put.1))
+pub returns-else-is_empty-clause-bytes : goal.returns-else-is_empty-clause-bytes
+returns-else-is_empty-clause-bytes g c =
+    c.put_hexadecimal.ensures.bytes ∙ ap (λ (t : List ℕ). c.args.text.now.bytes ++ t) (payload_text-some c.args.payload.now (search rules))

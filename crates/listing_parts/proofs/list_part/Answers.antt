@@ -1,39 +1,16 @@
 -- `listing_parts::list_part` meets its contract: after each step the lines so far are put. Assumes nothing.
-use mathlib.Core.Path.{refl}
-use native.Mathlib.Omega.{arith}
-use borrow.Author.Rules.{rules}
-use Rattle.listing.specs.Step.{standing}
-use Rattle.listing.proofs.Stepping.{never}
-use Rattle.listing_parts.proofs.Filling.{fewer, filling_none, filling_step, filled}
+use Rattle.std.proofs.Common.{◌≡◌, rules}
+use Rattle.std.specs.Prelude.{Some, None}
+use Rattle.listing_parts.proofs.Filling.{filling_step, filled_last}
 use Rattle.listing_parts.proofs.list_part.Goals as goal
 
-pub loop-part-init : goal.loop-part-init
-loop-part-init c = filling_none refl (search rules)
+pub returns-in_err-listing : goal.returns-in_err-listing
+returns-in_err-listing g c =
+    let over : c.list_next.result ≡ None = search rules in
+    let none : c.from_residual.result ≡ None = search rules in
+    rw none (filled_last c.loop-high.invariant (rw over at c.list_next.ensures))
 
-pub shape_of-text-then-text-part : goal.shape_of-text-then-text-part
-shape_of-text-then-text-part c = c.loop-part.invariant.put.kept
-
-pub returns-then-text-part : goal.returns-then-text-part
-returns-then-text-part c =
-    let l = c.loop-part in
-    filled {given = standing _ c.args.listing} l.invariant (λ _. omega (arith, l.invariant.put.kept))
-
-pub loop-part-smaller : goal.loop-part-smaller
-loop-part-smaller c =
-    let step = c.list_next-part in
-    let turn = c in
-    let l = turn in
-    fewer l.args.bundle.now l.loop-part.part step.result turn.loop-part-test.true step.ensures.further
-    step.ensures.placed.within
-
-pub loop-part-preserved : goal.loop-part-preserved
-loop-part-preserved c =
-    let turn = c in
-    let l = turn.loop-part in
-    filling_step turn.loop-part-test.true l.invariant (omega (arith, l.invariant.put.kept)) c.list_next-part.ensures
-
-pub shape_of-text : goal.shape_of-text
-shape_of-text c = c.loop-part.invariant.put.kept
-
-pub returns : goal.returns
-returns c = filled {given = standing _ c.args.listing} c.loop-part.invariant (λ on. never on (search rules))
+pub loop-high-preserved : goal.loop-high-preserved
+loop-high-preserved g c =
+    let on : c.list_next.result ≡ Some c.in_ok-listing.listing = search rules in
+    filling_step c.loop-high.invariant (rw on at c.list_next.ensures)

@@ -1,13 +1,14 @@
+use Rattle.std.proofs.Common.{◌-◌, length}
 use Rattle.lent.specs.Record.{parts, record_of}
-use Rattle.listing.specs.Step.{standing}
-use Rattle.listing_parts.proofs.Filling.{bytes_left, Filling}
+use Rattle.listing.specs.Step.{state_at}
+use Rattle.listing_parts.proofs.Filling.{Filling}
 use Rattle.listing_parts.proofs.list_part.Given as goal
 
-abbrev pub invariant-loop-part : goal.invariant-loop-part
-invariant-loop-part l =
-    Filling l.bundle (standing (record_of (parts l.own l.time l.initial.high l.initial.count l.initial.marks l.initial.barrier l.initial.slots l.initial.floor)) l.initial.part) l.initial.text
-    (standing (record_of (parts l.own l.time l.high l.count l.marks l.barrier l.slots l.floor)) l.part) l.text
+abbrev pub invariant-loop-high : goal.invariant-loop-high
+invariant-loop-high g l =
+    Filling l.bundle
+    (state_at (record_of (parts l.own l.time l.initial.high l.initial.count l.initial.marks l.initial.barrier l.initial.slots l.initial.floor)) l.initial.listing)
+    (record_of (parts l.own l.time l.high l.count l.marks l.barrier l.slots l.floor)) l.listing l.text.bytes
 
-abbrev pub decreases-loop-part : goal.decreases-loop-part
-decreases-loop-part l =
-    bytes_left l.bundle l.part
+abbrev pub decreases-loop-high : goal.decreases-loop-high
+decreases-loop-high g l = length l.bundle - l.listing.place

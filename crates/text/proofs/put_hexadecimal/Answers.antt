@@ -1,51 +1,45 @@
 -- `text::put_hexadecimal` meets its contract: after i turns the digits of the first i bytes are put. Assumes nothing.
-use mathlib.Core.Path.{◌≡◌}
-use native.Mathlib.Omega.{arith}
-use lib.ListN.{take, length-set}
-use lib.Seq.{take_all}
+use Rattle.std.proofs.Common.{◌≡◌, sym, append-nil, take_all, arith, rules}
+use Rattle.std.proofs.lemmas.Str.{encode_ascii}
 use Rattle.text.specs.Text.{hexadecimal}
-use Rattle.text.proofs.Puts.{put_nil}
-use Rattle.text.proofs.Hexadecimal.{put_byte}
+use Rattle.text.proofs.Hexadecimal.{hexadecimal_more, hexadecimal_size, one_more}
 use Rattle.text.proofs.put_hexadecimal.Goals as goal
 
-pub loop-i-init : goal.loop-i-init
+pub loop-byte-init : goal.loop-byte-init
 unfolding hexadecimal
-loop-i-init c = (omega arith, put_nil _ _, omega arith)
+loop-byte-init g c = (omega arith, sym (append-nil _))
 
-pub digit-requires : goal.digit-requires
-digit-requires c = omega (arith, c.number_at-byte.ensures.1)
+pub push-requires : goal.push-requires
+push-requires g c =
+    let l = c.loop-byte in
+    let size = hexadecimal_size _ c.args.bytes.now _ l.byte-index l.invariant.0 l.invariant.1 in
+    (search rules, rw (encode_ascii c.digit.result c.digit.ensures.ascii) (omega (arith, size, c.loop-byte-test.true, c.requires)))
 
-pub bounds-text-behind : goal.bounds-text-behind
-bounds-text-behind c = let l = c.loop-i in omega (arith, l.invariant.1.kept, l.invariant.2)
-
-pub digit-requires-in-loop-i : goal.digit-requires-in-loop-i
-digit-requires-in-loop-i c = omega arith
-
-pub overflow_add-text : goal.overflow_add-text
-overflow_add-text c = let l = c.loop-i in omega (arith, l.invariant.2)
-
-pub bounds-text-behind-in-loop-i : goal.bounds-text-behind-in-loop-i
-bounds-text-behind-in-loop-i c = let l = c.loop-i in rw length-set (omega (arith, l.invariant.1.kept, l.invariant.2))
-
-pub overflow_add-behind : goal.overflow_add-behind
-overflow_add-behind c = let l = c.loop-i in omega (arith, l.invariant.2)
-
-pub loop-i-preserved : goal.loop-i-preserved
-loop-i-preserved c =
-    let l = c.loop-i in
-    let byte = c.number_at-byte in (
-      omega arith,
-      put_byte c.args.bytes.now l.i byte.result _ _ (omega arith) byte.ensures.0 c.digit.ensures c.digit-in-loop-i.ensures
-          (omega (arith, l.invariant.2)) l.invariant.1,
-      omega (arith, l.invariant.2),
+pub push-requires-in-loop-byte : goal.push-requires-in-loop-byte
+push-requires-in-loop-byte g c =
+    let l = c.loop-byte in
+    let size = hexadecimal_size _ c.args.bytes.now _ l.byte-index l.invariant.0 l.invariant.1 in
+    let more = one_more _ _ _ (c.push.ensures.ascii c.digit.ensures.ascii) in (
+      search rules,
+      rw (encode_ascii c.digit-in-loop-byte.result c.digit-in-loop-byte.ensures.ascii) (omega (arith, size, more, c.loop-byte-test.true, c.requires)),
     )
 
-pub shape_of-text : goal.shape_of-text
-shape_of-text c = c.loop-i.invariant.1.kept
+pub loop-byte-preserved : goal.loop-byte-preserved
+loop-byte-preserved g c =
+    let l = c.loop-byte in (
+      omega (arith, c.loop-byte-test.true),
+      hexadecimal_more _ c.args.bytes.now _ _ _ l.byte-index _ _ (omega (arith, c.loop-byte-test.true)) l.invariant.1 c.digit.ensures.value
+          c.digit-in-loop-byte.ensures.value (c.push.ensures.ascii c.digit.ensures.ascii)
+          (c.push-in-loop-byte.ensures.ascii c.digit-in-loop-byte.ensures.ascii),
+    )
 
-pub returns : goal.returns
-returns c =
-    let a = c.args in
-    let l = c.loop-i in
-    let all : take l.i a.bytes.now ≡ a.bytes.now = take_all l.i a.bytes.now (omega arith) in
-    (rw all at l.invariant.1, omega (arith, l.invariant.2))
+pub returns-clause-bytes : goal.returns-clause-bytes
+returns-clause-bytes g c =
+    let l = c.loop-byte in
+    rw (take_all l.byte-index c.args.bytes.now (omega (arith, c.loop-byte-test.false))) at l.invariant.1
+
+pub returns-clause-digits : goal.returns-clause-digits
+returns-clause-digits g c =
+    let l = c.loop-byte in
+    let size = hexadecimal_size _ c.args.bytes.now _ l.byte-index l.invariant.0 l.invariant.1 in
+    omega (arith, size, c.loop-byte-test.false)

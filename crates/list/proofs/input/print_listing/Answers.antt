@@ -1,6 +1,7 @@
 -- `list::input::print_listing` meets its contract: it has written the parts put so far, which are together the listing where nothing is left.
 -- Assumes nothing.
-use Rattle.std.proofs.Common.{◌∙◌, ap, length, arith, rules}
+use Rattle.std.proofs.Common.{◌≡◌, ◌∙◌, ap, length, arith, rules}
+use Rattle.std.specs.Prelude.{None}
 use Rattle.text.specs.Text.{ascii}
 use Rattle.listing_parts.proofs.Theorems.{parts_are_listing}
 use Rattle.list.proofs.Printing.{part-there, printing-next, long-there, long-all, long-got, long_failed, on_err, printing_failed, printing-none}
@@ -22,31 +23,33 @@ pub returns-then-input-gt-LONGEST-clause-err : goal.returns-then-input-gt-LONGES
 unfolding ascii
 returns-then-input-gt-LONGEST-clause-err g c = long_failed _ (omega arith) _ _ _ c.write_part.ensures.err
 
-pub loop-listing-init : goal.loop-listing-init
-loop-listing-init g c = printing-none c.start-listing.ensures
+pub loop-next-init : goal.loop-next-init
+loop-next-init g c = printing-none c.start.ensures
 
-pub write_part-requires-in-loop-listing : goal.write_part-requires-in-loop-listing
-write_part-requires-in-loop-listing g c =
-    part-there c.loop-listing.invariant c.loop-listing-test.true (omega arith) (omega arith) c.list_part-listing.ensures
+pub write_part-requires-in-Some : goal.write_part-requires-in-Some
+write_part-requires-in-Some g c =
+    let put = rw (← c.as_str.ensures.value) at c.list_part-next.ensures in
+    part-there (rw c.in-Some.is at c.loop-next.invariant) (omega arith) put c.as_str.ensures.fits
 
 pub returns-in_err-written-clause-err : goal.returns-in_err-written-clause-err
 returns-in_err-written-clause-err g c =
-    on_err _
-    (printing_failed c.loop-listing.invariant c.loop-listing-test.true (omega arith) (omega arith) c.list_part-listing.ensures
-    _ c.in_err-written.ensures.err)
+    let put = rw (← c.as_str.ensures.value) at c.list_part-next.ensures in
+    on_err _ (printing_failed (rw c.in-Some.is at c.loop-next.invariant) (omega arith) put _ c.in_err-written.ensures.err)
 
-pub loop-listing-preserved : goal.loop-listing-preserved
-loop-listing-preserved g c =
+pub loop-next-preserved : goal.loop-next-preserved
+loop-next-preserved g c =
+    let put = rw (← c.as_str.ensures.value) at c.list_part-next.ensures in
     rw c.in_ok-written.ensures.place
-    (printing-next c.loop-listing.invariant c.loop-listing-test.true (omega arith) (omega arith) c.list_part-listing.ensures
-    (omega arith) c.in_ok-written.ensures.bytes)
+    (printing-next (rw c.in-Some.is at c.loop-next.invariant) (omega arith) put c.as_str.ensures.fits c.in_ok-written.ensures.bytes)
 
 pub returns-clause-all : goal.returns-clause-all
 returns-clause-all g c =
-    let l = c.loop-listing in
-    l.invariant.count ∙ ap length (parts_are_listing (omega arith) l.invariant.put (search rules))
+    let l = c.loop-next in
+    let over : l.next ≡ None = search rules in
+    l.invariant.count ∙ ap length (parts_are_listing (omega arith) (rw over at l.invariant.put))
 
 pub returns-clause-bytes : goal.returns-clause-bytes
 returns-clause-bytes g c =
-    let l = c.loop-listing in
-    rw (parts_are_listing (omega arith) l.invariant.put c.loop-listing-test.false) at l.invariant.got
+    let l = c.loop-next in
+    let over : l.next ≡ None = search rules in
+    rw (parts_are_listing (omega arith) (rw over at l.invariant.put)) at l.invariant.got

@@ -9,8 +9,8 @@ use Rattle.std.specs.Prelude.{Option, Some, None}
 use Rattle.rules.specs.Panel.{Panel}
 use Rattle.listing.specs.declared.Listing.{Listing}
 use Rattle.listing.specs.Listing.{State, lines_at, state_after, lines_from}
-use Rattle.listing.specs.Step.{Standing, standing, state_at, step_room, Placed, Stepped}
-use Rattle.listing_parts.specs.Part.{left_from, lines_left, PartPut}
+use Rattle.listing.specs.Step.{standing, state_at, step_room, Placed, Stepped}
+use Rattle.listing_parts.specs.Part.{left_from, PartPut}
 use Rattle.listing.proofs.Theorems.{lines_from_enough}
 
 -- before a step: its lines, and what is left after it

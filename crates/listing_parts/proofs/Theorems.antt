@@ -1,7 +1,7 @@
 -- What is shown of the parts of a listing: they are together the whole. Assumes nothing.
 use mathlib.Core.Path.{◌≡◌, refl, sym, ap, ◌∙◌}
 use mathlib.Core.Bool.{Bool, cond}
-use mathlib.Core.List.{List, [], ◌++◌, append_assoc, append-nil}
+use mathlib.Core.List.{List, ◌++◌, append_assoc, append-nil}
 use Prim.Native.Nat.{ℕ, suc, ◌≤◌}
 use borrow.Author.Tests.{le-ltb}
 use lib.ListN.{length, take, drop}

@@ -1,6 +1,6 @@
 -- Numbers in decimal: how a number's digits end, and that they are those that the library prints.
 use mathlib.Core.Path.{◌≡◌, refl, sym, ap, ◌∙◌}
-use mathlib.Core.Bool.{Bool, true, false, cond}
+use mathlib.Core.Bool.{Bool, true, false}
 use mathlib.Core.List.{List, [], ◌∷◌, ◌++◌}
 use Prim.Native.Nat.{ℕ, zero, suc, ◌+◌, ◌*◌, ◌/◌, ◌%◌, ◌^◌, ◌≤◌, ◌<◌}
 use native.Mathlib.Omega.{arith}
@@ -57,6 +57,6 @@ decimal_printed n fits =
     decimal_by_steps (λ (m : ℕ) (ds : List ℕ). m < 2 ^ 64 → ds ≡ decimal m)
     (λ m small _. sym (decimal_small m small ∙ simp (lt-ltb _ _ small)))
     (λ m ds large tenth below.
-      ap (λ (text : List ℕ). text ++ ((48 + m % 10) ∷ [])) (tenth (omega arith))
-      ∙ sym (decimal_more m large below ∙ simp (lt-ltb (m % 10) 10 (omega arith))))
+    ap (λ (text : List ℕ). text ++ ((48 + m % 10) ∷ [])) (tenth (omega arith))
+    ∙ sym (decimal_more m large below ∙ simp (lt-ltb (m % 10) 10 (omega arith))))
     n fits fits

@@ -1,5 +1,5 @@
 -- `text::put_hexadecimal` meets its contract: after i turns the digits of the first i bytes are put. Assumes nothing.
-use Rattle.std.proofs.Common.{◌≡◌, sym, append-nil, take_all, arith, rules}
+use Rattle.std.proofs.Common.{sym, append-nil, take_all, arith, rules}
 use Rattle.std.proofs.lemmas.Str.{encode_ascii}
 use Rattle.text.specs.Text.{hexadecimal}
 use Rattle.text.proofs.Hexadecimal.{hexadecimal_more, hexadecimal_size, one_more}

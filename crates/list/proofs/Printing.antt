@@ -72,15 +72,6 @@ module _ {input : List ℕ} {before after : Option (List ℕ)} {p : Panel} {l : 
       few None further = tt
       few (Some m) further = let moved = further (omega arith) in omega (arith, room, printing.few, moved)
 
-  -- fewer bytes are left
-  pub fewer_left : bytes_left input next < bytes_left input (Some l)
-  fewer_left = go next put.further put.placed
-    where
-      go : (m : Option Listing) → IfSome m (λ m. step_room ≤ 16384 → l.place < m.place) → IfSome m (λ m. Placed input m.place m.frames)
-          → bytes_left input m < bytes_left input (Some l)
-      go None further placed = omega arith
-      go (Some m) further placed = let moved = further (omega arith) in omega (arith, moved, placed.within)
-
   -- if it is not written whole
   pub printing_failed : (last : Option (List ℕ)) → AppendsSome after last part → AppendsSome before last (listing input)
   printing_failed last =

@@ -35,11 +35,11 @@ fn write_whole<W: Write>(writer: &mut W, bytes: &[u8]) -> io::Result<()>
 
 // Writes a part of the input's listing, which stands there from that place on, and gives the place
 // behind it. Only the contract looks at the input.
-fn write_part<'a, 'b, 'c, W: Write>(
-    writer: &'a mut W,
-    input: &'b [u8],
+fn write_part<W: Write>(
+    writer: &mut W,
+    input: &[u8],
     written: usize,
-    part: &'c str,
+    part: &str,
 ) -> io::Result<usize>
     requires { BytesAt (listingOf input.now) written part.now }
     ensures place { IfOk result (λ n. n ≡ written + length part.now) }

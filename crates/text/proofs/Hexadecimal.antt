@@ -4,7 +4,6 @@ use mathlib.Core.List.{List, [], ◌∷◌, ◌++◌, append_assoc}
 use Prim.Native.Nat.{ℕ, ◌+◌, ◌*◌, ◌/◌, ◌%◌, ◌≤◌, ◌<◌}
 use native.Mathlib.Numerals.{add-one}
 use native.Mathlib.Omega.{arith}
-use borrow.Author.Tests.{lt-ltb, le-ltb}
 use lib.ListN.{length, get_or, take, length-append}
 use lib.Seq.{take-suc}
 use Rattle.std.proofs.Common.{length-take-le}
@@ -36,15 +35,6 @@ pub hexadecimal_size : (before bytes text : List ℕ) (i : ℕ) → i ≤ length
     → length text ≡ length before + 2 * i
 hexadecimal_size before bytes text i within t =
     rw (t, length-append, length-hexadecimal, length-take-le i bytes within) refl
-
--- the digit of a number below 16, by cases
-pub digit_below : (n d : ℕ) → n < 10 → d ≡ 48 + n → d ≡ digit n
-unfolding digit
-digit_below n d small e = e ∙ simp (lt-ltb _ _ small)
-
-pub digit_above : (n d : ℕ) → 10 ≤ n → d ≡ 87 + n → d ≡ digit n
-unfolding digit
-digit_above n d large e = e ∙ simp (le-ltb _ _ large)
 
 pub one_more : (text after : List ℕ) (byte : ℕ) → after ≡ text ++ byte ∷ [] → length after ≡ length text + 1
 one_more text after byte e = rw (e, length-append) refl

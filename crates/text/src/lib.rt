@@ -10,19 +10,18 @@ ghost use Rattle.text.specs.Text.{digit as digitOf};
 use arrayvec::ArrayString;
 
 // The digit of a number below 16.
+#[tactic(auto, unfolding(crate::specs::Text::digit))]
 fn digit(number: u8) -> char
     requires { number < 16 }
     ensures value { result ≡ digitOf number }
     ensures ascii { result < 128 }
 {
-    if number < 10 {
-        return char::from(b'0' + number);
-    }
-    char::from(b'a' - 10 + number)
+    char::from_digit(u32::from(number), 16).unwrap()
 }
 
 // Puts a number in decimal. By `itoa`, as `write!` gives a Result and nothing says when it is Ok: the
 // functions here always put their text.
+#[tactic(auto, using(crate::proofs::Decimal::decimal_printed))]
 pub fn put_decimal<const CAP: usize>(text: &mut ArrayString<CAP>, number: u64)
     requires { array_string_len text.old + 20 ≤ CAP }
     ensures bytes { text.new.bytes ≡ text.old.bytes ++ decimal number }

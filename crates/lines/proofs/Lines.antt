@@ -9,25 +9,25 @@ use Rattle.log_records.specs.LogRecords.{log_record_at, fields_in, payload_in}
 use Rattle.text.specs.Text.{ascii, decimal, hexadecimal}
 use Rattle.lines.specs.Lines.{item, outcome, frame_line, payload_text, hand_line, hand_lines}
 
-pub outcome-taken : (number : ℕ) → number ≡ 0 → ascii "taken" ≡ outcome number
+pub outcome_taken : (number : ℕ) → number ≡ 0 → ascii "taken" ≡ outcome number
 unfolding outcome
-outcome-taken zero none = refl
-outcome-taken (suc n) none = absurd (omega arith)
+outcome_taken zero none = refl
+outcome_taken (suc n) none = absurd (omega arith)
 
-pub outcome-refused : (number : ℕ) → (number ≡ 0 → ⊥) → decimal number ≡ outcome number
+pub outcome_refused : (number : ℕ) → (number ≡ 0 → ⊥) → decimal number ≡ outcome number
 unfolding outcome
-outcome-refused zero some = absurd (some refl)
-outcome-refused (suc n) some = refl
+outcome_refused zero some = absurd (some refl)
+outcome_refused (suc n) some = refl
 
-pub payload_text-none : (payload : List ℕ) → length payload ≡ 0 → ascii "-" ≡ payload_text payload
+pub payload_text_none : (payload : List ℕ) → length payload ≡ 0 → ascii "-" ≡ payload_text payload
 unfolding payload_text
-payload_text-none [] none = refl
-payload_text-none (b ∷ bs) none = absurd (omega arith)
+payload_text_none [] none = refl
+payload_text_none (b ∷ bs) none = absurd (omega arith)
 
-pub payload_text-some : (payload : List ℕ) → (length payload ≡ 0 → ⊥) → hexadecimal payload ≡ payload_text payload
+pub payload_text_some : (payload : List ℕ) → (length payload ≡ 0 → ⊥) → hexadecimal payload ≡ payload_text payload
 unfolding payload_text
-payload_text-some [] some = absurd (some refl)
-payload_text-some (b ∷ bs) some = refl
+payload_text_some [] some = absurd (some refl)
+payload_text_some (b ∷ bs) some = refl
 
 -- the pieces of a frame's line
 pub frame_pieces : (frame number : ℕ) (t₀ t₁ t₂ t₃ t₄ t₅ : List ℕ)

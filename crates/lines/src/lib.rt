@@ -12,6 +12,7 @@ use log_records::{log_payload, panel_log_fields};
 use text::{put_decimal, put_hexadecimal};
 
 // Puts what was answered, `taken` for 0.
+#[tactic(auto, using(crate::proofs::Lines::outcome_taken, crate::proofs::Lines::outcome_refused), unfolding(text::specs::Text::ascii))]
 fn put_outcome<const CAP: usize>(text: &mut ArrayString<CAP>, number: u8)
     requires { array_string_len text.old + 20 ≤ CAP }
     ensures bytes { text.new.bytes ≡ text.old.bytes ++ outcome number }
@@ -25,6 +26,7 @@ fn put_outcome<const CAP: usize>(text: &mut ArrayString<CAP>, number: u8)
 }
 
 // Puts the line of a frame: its number from 1, and what was answered.
+#[tactic(auto, using(crate::proofs::Lines::frame_pieces), unfolding(text::specs::Text::ascii))]
 pub fn put_frame_line<const CAP: usize>(text: &mut ArrayString<CAP>, frame: u64, number: u8)
     requires { array_string_len text.old + 48 ≤ CAP }
     ensures bytes { text.new.bytes ≡ text.old.bytes ++ frame_line frame number }
@@ -38,6 +40,7 @@ pub fn put_frame_line<const CAP: usize>(text: &mut ArrayString<CAP>, frame: u64,
 }
 
 // Puts a payload in hexadecimal, or `-` for an empty one.
+#[tactic(auto, using(crate::proofs::Lines::payload_text_none, crate::proofs::Lines::payload_text_some), unfolding(text::specs::Text::ascii))]
 fn put_payload<const CAP: usize>(text: &mut ArrayString<CAP>, payload: &[u8])
     requires { (array_string_len text.old + 64 ≤ CAP) × (length payload.now ≤ 32) }
     ensures bytes { text.new.bytes ≡ text.old.bytes ++ payload_text payload.now }
@@ -67,6 +70,7 @@ fn put_hand_line<const CAP: usize>(text: &mut ArrayString<CAP>, output: &[u8], i
 }
 
 // Puts the lines of so many log records at the start of an output.
+#[tactic(auto, using(crate::proofs::Lines::no_lines, crate::proofs::Lines::next_line))]
 pub fn put_hand_lines<const CAP: usize>(text: &mut ArrayString<CAP>, output: &[u8], count: usize)
     requires { array_string_len text.old + count * 112 ≤ CAP }
     ensures bytes { text.new.bytes ≡ text.old.bytes ++ hand_lines count output.now }

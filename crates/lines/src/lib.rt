@@ -54,6 +54,7 @@ fn put_payload<const CAP: usize>(text: &mut ArrayString<CAP>, payload: &[u8])
 }
 
 // Puts the line of the log record of that index.
+#[tactic(auto, using(crate::proofs::Lines::hand_pieces, log_records::proofs::Places::payload_short), unfolding(text::specs::Text::ascii))]
 fn put_hand_line<const CAP: usize>(text: &mut ArrayString<CAP>, output: &[u8], index: usize)
     requires { array_string_len text.old + 112 ≤ CAP }
     ensures bytes { text.new.bytes ≡ text.old.bytes ++ hand_line (log_record_at output.now index) }

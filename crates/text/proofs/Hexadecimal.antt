@@ -1,6 +1,6 @@
 -- Bytes in hexadecimal: one byte more, and two digits for each.
-use mathlib.Core.Path.{◌≡◌, refl, ap, ◌∙◌}
-use mathlib.Core.List.{List, [], ◌∷◌, ◌++◌, append_assoc}
+use mathlib.Core.Path.{◌≡◌, refl, sym, ap}
+use mathlib.Core.List.{List, [], ◌∷◌, ◌++◌, append_assoc, append-nil}
 use Prim.Native.Nat.{ℕ, ◌+◌, ◌*◌, ◌/◌, ◌%◌, ◌≤◌, ◌<◌}
 use native.Mathlib.Numerals.{add-one}
 use native.Mathlib.Omega.{arith}
@@ -38,3 +38,7 @@ hexadecimal_size before bytes text i within t =
 
 pub one_more : (text after : List ℕ) (byte : ℕ) → after ≡ text ++ byte ∷ [] → length after ≡ length text + 1
 one_more text after byte e = rw (e, length-append) refl
+
+pub hexadecimal_none : (text : List ℕ) → text ≡ text ++ hexadecimal []
+unfolding hexadecimal
+hexadecimal_none text = sym (append-nil text)

@@ -31,6 +31,7 @@ pub fn put_decimal<const CAP: usize>(text: &mut ArrayString<CAP>, number: u64)
 }
 
 // Puts bytes in hexadecimal.
+#[tactic(auto, using(crate::proofs::Hexadecimal::hexadecimal_none, crate::proofs::Hexadecimal::hexadecimal_more, crate::proofs::Hexadecimal::hexadecimal_size, crate::proofs::Hexadecimal::one_more, std::proofs::lemmas::Str::encode_ascii))]
 pub fn put_hexadecimal<const CAP: usize>(text: &mut ArrayString<CAP>, bytes: &[u8])
     requires { array_string_len text.old + 2 * length bytes.now ≤ CAP }
     ensures bytes { text.new.bytes ≡ text.old.bytes ++ hexadecimal bytes.now }

@@ -5,9 +5,6 @@ use Rattle.text.specs.Text.{ascii}
 use Rattle.listing.proofs.Stepping.{few_handed, frame_stepped, end_stepped, broken_stepped}
 use Rattle.listing.proofs.list_next.Goals as goal
 
-pub overflow_add-frames : goal.overflow_add-frames
-overflow_add-frames g c = omega (arith, c.requires.0.few, c.requires.0.within)
-
 pub put_hand_lines-requires : goal.put_hand_lines-requires
 put_hand_lines-requires g c =
     let few =

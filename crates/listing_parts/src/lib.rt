@@ -33,7 +33,7 @@ pub fn list_part<const CAP: usize>(
         text.new.bytes }
 {
     text.clear();
-    while text.remaining_capacity() >= STEP_ROOM {
+    'steps: while text.remaining_capacity() >= STEP_ROOM {
         listing = list_next(
             own, time, high, count, marks, barrier, slots, floor, bundle, listing, text,
         )?;

@@ -8,9 +8,9 @@ pub returns-in_err-listing : goal.returns-in_err-listing
 returns-in_err-listing g c =
     let over : c.list_next.result ≡ None = search rules in
     let none : c.from_residual.result ≡ None = search rules in
-    rw none (filled_last c.loop-high.invariant (rw over at c.list_next.ensures))
+    rw none (filled_last c.steps.invariant (rw over at c.list_next.ensures))
 
-pub loop-high-preserved : goal.loop-high-preserved
-loop-high-preserved g c =
+pub steps-preserved : goal.steps-preserved
+steps-preserved g c =
     let on : c.list_next.result ≡ Some c.in_ok-listing.listing = search rules in
-    filling_step c.loop-high.invariant (rw on at c.list_next.ensures)
+    filling_step c.steps.invariant (rw on at c.list_next.ensures)

@@ -4,11 +4,11 @@ use Rattle.listing.specs.Step.{state_at}
 use Rattle.listing_parts.proofs.Filling.{Filling}
 use Rattle.listing_parts.proofs.list_part.Given as goal
 
-abbrev pub invariant-loop-high : goal.invariant-loop-high
-invariant-loop-high g l =
+abbrev pub invariant-steps : goal.invariant-steps
+invariant-steps g l =
     Filling l.bundle
     (state_at (record_of (parts l.own l.time l.initial.high l.initial.count l.initial.marks l.initial.barrier l.initial.slots l.initial.floor)) l.initial.listing)
     (record_of (parts l.own l.time l.high l.count l.marks l.barrier l.slots l.floor)) l.listing l.text.bytes
 
-abbrev pub decreases-loop-high : goal.decreases-loop-high
-decreases-loop-high g l = length l.bundle - l.listing.place
+abbrev pub decreases-steps : goal.decreases-steps
+decreases-steps g l = length l.bundle - l.listing.place

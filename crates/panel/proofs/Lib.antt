@@ -1,2 +1,3 @@
 -- A law of the struct.
 pub mod GivenBack
+pub mod Fresh

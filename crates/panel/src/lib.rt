@@ -63,12 +63,17 @@ pub fn panel_fresh(number: u8) -> Given
         &mut panel.slots,
         &mut panel.floor,
     );
-    let answer = match number {
-        0 => Ok(Accepted {
+    if number != 0 {
+        return Given {
+            panel,
+            answer: Err(Refusal::PanelNumber),
+        };
+    }
+    Given {
+        panel,
+        answer: Ok(Accepted {
             count: 0,
             length: 0,
         }),
-        _ => Err(Refusal::PanelNumber),
-    };
-    Given { panel, answer }
+    }
 }

@@ -6,14 +6,24 @@
 
 ghost use Rattle.std.specs.Prelude.{[]};
 ghost use Rattle.rules.specs.Results.{set_back};
-ghost use Rattle.lent.specs.Record.{parts};
+ghost use Rattle.lent.specs.Record.{parts, parts_in};
 ghost use Rattle.parts.specs.Record.{PromisedInPlace};
-ghost use Rattle.setting_back.specs.Answer.{answer_of};
+ghost use Rattle.setting_back.specs.Answer.{answer_of, TimeLeft};
 
 use frame::Refusal;
 use lent::View;
 use parts::broken;
 use slots::SLOTS;
+
+// The time that a set back leaves: the lower of the panel's own and the reading. Its one refusal is 26.
+pub fn set_back(view: View, reading: u64) -> Result<u64, Refusal>
+    ensures { TimeLeft (parts_in view.entry) reading result }
+{
+    if broken(view) {
+        return Err(Refusal::RecordBroken);
+    }
+    Ok(reading.min(view.time))
+}
 
 // The time becomes the lower of its own and the reading. Nothing is handed and nothing dropped; all
 // else of the record is as it was. The answer is 0, or 26. (C lends the parts, and has numbers.)
@@ -43,9 +53,11 @@ pub fn panel_set_back_parts<'a>(
         slots,
         floor,
     };
-    if broken(view) {
-        return Refusal::RecordBroken.number();
+    match set_back(view, reading) {
+        Ok(lower) => {
+            *time = lower;
+            0
+        }
+        Err(refusal) => refusal.number(),
     }
-    *time = reading.min(*time);
-    0
 }

@@ -7,6 +7,7 @@ use mathlib.Core.List.Memᴰ.{head as first}
 use mathlib.Core.List.Memᴰ.{tail as later}
 use mathlib.Core.List.{List, [], ◌∷◌, ◌++◌}
 use lib.ListN.{replicate}
+use Rattle.std.specs.Prelude.{Ok}
 use Rattle.frame.specs.Reading.{reading, reading_of}
 use Rattle.rules.specs.Panel.{new_make, none64}
 use Rattle.rules.specs.Results.{receive}
@@ -55,7 +56,7 @@ beacon_first = (
   panel_receive (
     (some, (some, tt)),
     (panel0 0 zeros, (shared narrow2, (lent output, tt))),
-    record { panel = panel0 1 beacon_waits; count = 0; number = 0 },
+    record { panel = panel0 1 beacon_waits; answer = Ok (record { count = 0; length = 0 }) },
     (panel0 0 zeros, (shared narrow2, (lent output, tt))),
     (refl, λ refused. absurd (refused refl)),
     refl,

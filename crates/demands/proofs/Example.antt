@@ -10,6 +10,7 @@ use mathlib.Core.List.Memᴰ.{tail as later}
 use mathlib.Core.List.{List, [], ◌∷◌, ◌++◌}
 use lib.ListN.{drop, replicate}
 use denote.Ref.{Bor, MutBor}
+use Rattle.std.specs.Prelude.{Ok}
 use Rattle.rules.specs.Panel.{Name, old_make, none64, fresh, of_make}
 use Rattle.rules.specs.Panel.{Panel as Record}
 use Rattle.rules.specs.Results.{send, receive, defined}
@@ -75,7 +76,7 @@ set_back_to100 = (
   panel_set_back (
     tt,
     (panel3 4000000000 0 none64 none64, (100, tt)),
-    record { panel = panel3 100 0 none64 none64; number = 0 },
+    record { panel = panel3 100 0 none64 none64; answer = Ok (record { count = 0; length = 0 }) },
     (panel3 4000000000 0 none64 none64, (100, tt)),
     (refl, λ refused. absurd (refused refl)),
     refl,
@@ -105,7 +106,7 @@ sent = (
   panel_send (
     (some, (some, (some, tt))),
     (panel3 100 0 none64 none64, (shared (0x4f ∷ 0x4b ∷ []), (0, (lent output, (lent buffer, tt))))),
-    record { panel = panel3 100 deadline1 (only3 deadline1) (only3 deadline1); count = 1; length = 25; number = 0 },
+    record { panel = panel3 100 deadline1 (only3 deadline1) (only3 deadline1); answer = Ok (record { count = 1; length = 25 }) },
     (panel3 100 0 none64 none64, (shared (0x4f ∷ 0x4b ∷ []), (0, (lent (output_with (logged1 ∷ [])), (lent (frame1 ++ drop 25 buffer), tt))))),
     (refl, λ refused. absurd (refused refl)),
     refl,

@@ -6,6 +6,7 @@ use denote.Triple.Clauses.{AtExit}
 use Rattle.rules.specs.Calls.{beacon_lifetime}
 use Rattle.rules.specs.Results.{send, receive, clock, set_back}
 use Rattle.lent.specs.Record.{parts}
+use Rattle.parts.specs.Answers.{answer_of as answered_by}
 use Rattle.panel.specs.Record.{parts_of}
 use Rattle.exports.proofs.panel_send_parts.Kinds as send-parts
 use Rattle.exports.proofs.panel_send_parts.Reads as send-parts-reads
@@ -114,7 +115,7 @@ send_by_value κs given answer ended =
     record {
       given = parts_of panel;
       call = send payload.now lifetime output.now buffer.now;
-      answer = record { count = answer.count; length = answer.length; number = answer.number };
+      answer = answered_by answer.answer;
       left = parts_of answer.panel;
       output = output'.now;
       buffer = buffer'.now;
@@ -134,7 +135,7 @@ receive_by_value κs given answer ended =
     record {
       given = parts_of panel;
       call = receive frame.now output.now;
-      answer = record { count = answer.count; length = 0; number = answer.number };
+      answer = answered_by answer.answer;
       left = parts_of answer.panel;
       output = output'.now;
       buffer = [];
@@ -147,7 +148,7 @@ clock_by_value κs given answer ended =
     record {
       given = parts_of panel;
       call = clock reading output.now;
-      answer = record { count = answer.count; length = 0; number = answer.number };
+      answer = answered_by answer.answer;
       left = parts_of answer.panel;
       output = output'.now;
       buffer = [];
@@ -159,7 +160,7 @@ set_back_by_value κs given answer ended =
     record {
       given = parts_of panel;
       call = set_back reading;
-      answer = answer_of answer.number;
+      answer = answered_by answer.answer;
       left = parts_of answer.panel;
       output = [];
       buffer = [];

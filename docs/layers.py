@@ -23,7 +23,7 @@ GROUPS = {"theory": ("Theory: no code", "#fbf3df", 1), "module": ("The module", 
           "tests": ("Test programs", "#f2f2f2", 2)}  # the last: how many boxes have room side by side
 OUTSIDE = "not proved: radio, C firmware, the compiler, C's read and write"
 PROVED = "proved: from the bytes to the order of each log, after every list of calls"
-NOTE = ("The third call, `clock_in_place` (refused with 26, 10, 25), sets the time, drops what has lapsed (`alive`), and settles as in steps 10 to 12.")
+NOTE = ("The third call, `clock_in_place` (refused with 26, 10, 25), sets the time, drops what has lapsed (`alive`), and settles as in steps 11 to 13.")
 LABEL = text_width("definitions", 11) + 6  # the width of the words before a bar
 BLOCK = 230  # the width of all bars of a box, with words and numbers
 NUMBERS = text_width("00", 13, True) + 10  # the width of the layers' numbers

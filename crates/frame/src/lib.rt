@@ -53,12 +53,15 @@ pub fn deadline_in(frame: &[u8], version: Version) -> u64
     number_at(frame, DEADLINE_AT, 8) >> (64 - 8 * version.width())
 }
 
-// The entry at a place.
+// The entry at a place. (Each width is a constant here: of any other the compiler makes a call of memcpy.)
 pub fn entry_at(frame: &[u8], at: usize, version: Version) -> u64
     requires { at + width_of version ≤ length frame.now }
     ensures { result ≡ number_at frame.now at (width_of version) }
 {
-    number_at(frame, at, version.width())
+    match version {
+        Version::One => number_at(frame, at, NARROW),
+        Version::Two => number_at(frame, at, WIDTH),
+    }
 }
 
 // The number of entries: the count of ones in the mask.

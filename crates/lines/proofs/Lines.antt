@@ -1,23 +1,28 @@
 -- The lines: what was answered and the text of a payload by cases, and the pieces of a line put one behind the other.
 use mathlib.Core.Path.{◌≡◌, refl, sym}
 use mathlib.Core.List.{List, [], ◌∷◌, ◌++◌, append_assoc, append-nil}
-use Prim.Native.Nat.{ℕ, zero, suc, ◌+◌}
+use Prim.Native.Nat.{ℕ, zero, suc, ◌+◌, ◌<◌}
 use native.Mathlib.Numerals.{add-one}
 use native.Mathlib.Omega.{arith}
 use lib.ListN.{length}
+use Rattle.frame.specs.declared.refusal.Refusal.{Refusal}
+use Rattle.frame.specs.Refusal.{number_of}
+use Rattle.frame.proofs.Refusals.{number_of_pos}
 use Rattle.log_records.specs.LogRecords.{log_record_at, fields_in, payload_in}
 use Rattle.text.specs.Text.{ascii, decimal, hexadecimal}
 use Rattle.lines.specs.Lines.{item, outcome, frame_line, payload_text, hand_line, hand_lines}
 
-pub outcome_taken : (number : ℕ) → number ≡ 0 → ascii "taken" ≡ outcome number
+pub outcome_taken : outcome 0 ≡ ascii "taken"
 unfolding outcome
-outcome_taken zero none = refl
-outcome_taken (suc n) none = absurd (omega arith)
+outcome_taken = refl
 
-pub outcome_refused : (number : ℕ) → (number ≡ 0 → ⊥) → decimal number ≡ outcome number
+decimal_outcome : (number : ℕ) → 0 < number → outcome number ≡ decimal number
 unfolding outcome
-outcome_refused zero some = absurd (some refl)
-outcome_refused (suc n) some = refl
+decimal_outcome zero some = absurd (omega arith)
+decimal_outcome (suc n) some = refl
+
+pub outcome_refused : (refusal : Refusal) → outcome (number_of refusal) ≡ decimal (number_of refusal)
+outcome_refused refusal = decimal_outcome (number_of refusal) (number_of_pos refusal)
 
 pub payload_text_none : (payload : List ℕ) → length payload ≡ 0 → ascii "-" ≡ payload_text payload
 unfolding payload_text

@@ -1,12 +1,19 @@
 -- Document 01, "Bundle and listing program": the lines that "list" prints. Items of a line have one blank between them, each line is closed by
 -- a line feed.
-use Rattle.std.specs.Prelude.{ℕ, zero, suc, List, [], ◌∷◌, ◌++◌}
+use Rattle.std.specs.Prelude.{ℕ, zero, suc, List, [], ◌∷◌, ◌++◌, Option, Some, None}
+use Rattle.frame.specs.declared.refusal.Refusal.{Refusal}
+use Rattle.frame.specs.Refusal.{number_of}
 use Rattle.log_records.specs.LogRecords.{log_record_at, fields_in, payload_in}
 use Rattle.text.specs.Text.{ascii, decimal, hexadecimal}
 
 -- a number, and the blank before the next item
 unfoldable pub item : ℕ → List ℕ
 item n = decimal n ++ ascii " "
+
+-- the number of a refusal, 0 for none
+abbrev pub number_or_0 : Option Refusal → ℕ
+number_or_0 None = 0
+number_or_0 (Some refusal) = number_of refusal
 
 -- `taken` or the refusal number
 unfoldable pub outcome : ℕ → List ℕ

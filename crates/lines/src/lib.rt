@@ -5,37 +5,41 @@
 ghost use Rattle.std.specs.Prelude.{◌≡◌, ◌++◌, ◌+◌, ◌*◌, ◌≤◌, length};
 ghost use Rattle.log_records.specs.LogRecords.{log_record_at};
 ghost use Rattle.arrayvec.specs.ArrayString.{array_string_len};
-ghost use Rattle.lines.specs.Lines.{outcome, frame_line, payload_text, hand_line, hand_lines};
+ghost use Rattle.lines.specs.Lines.{number_or_0, outcome, frame_line, payload_text, hand_line, hand_lines};
 
 use arrayvec::ArrayString;
+use frame::Refusal;
 use log_records::{log_payload, panel_log_fields};
 use text::{put_decimal, put_hexadecimal};
 
-// Puts what was answered, `taken` for 0.
+// Puts what was answered, `taken` or the number of the refusal.
 #[tactic(auto, using(crate::proofs::Lines::outcome_taken, crate::proofs::Lines::outcome_refused), unfolding(text::specs::Text::ascii))]
-fn put_outcome<const CAP: usize>(text: &mut ArrayString<CAP>, number: u8)
+fn put_outcome<const CAP: usize>(text: &mut ArrayString<CAP>, refusal: Option<Refusal>)
     requires { array_string_len text.old + 20 ≤ CAP }
-    ensures bytes { text.new.bytes ≡ text.old.bytes ++ outcome number }
+    ensures bytes { text.new.bytes ≡ text.old.bytes ++ outcome (number_or_0 refusal) }
     ensures short { array_string_len text.new ≤ array_string_len text.old + 20 }
 {
-    if number == 0 {
-        text.push_str("taken");
-    } else {
-        put_decimal(text, u64::from(number));
+    match refusal {
+        None => text.push_str("taken"),
+        Some(refusal) => put_decimal(text, u64::from(refusal.number())),
     }
 }
 
 // Puts the line of a frame: its number from 1, and what was answered.
 #[tactic(auto, using(crate::proofs::Lines::frame_pieces), unfolding(text::specs::Text::ascii))]
-pub fn put_frame_line<const CAP: usize>(text: &mut ArrayString<CAP>, frame: u64, number: u8)
+pub fn put_frame_line<const CAP: usize>(
+    text: &mut ArrayString<CAP>,
+    frame: u64,
+    refusal: Option<Refusal>,
+)
     requires { array_string_len text.old + 48 ≤ CAP }
-    ensures bytes { text.new.bytes ≡ text.old.bytes ++ frame_line frame number }
+    ensures bytes { text.new.bytes ≡ text.old.bytes ++ frame_line frame (number_or_0 refusal) }
     ensures short { array_string_len text.new ≤ array_string_len text.old + 48 }
 {
     text.push_str("frame ");
     put_decimal(text, frame);
     text.push_str(" ");
-    put_outcome(text, number);
+    put_outcome(text, refusal);
     text.push_str("\n");
 }
 

@@ -17,6 +17,7 @@ use Rattle.parts.specs.declared.answer.Answer.{Answer}
 use Rattle.parts.specs.Record.{answered}
 use Rattle.text.specs.Text.{ascii}
 use Rattle.lines.specs.Lines.{frame_line, hand_lines}
+use Rattle.lines.proofs.Lines.{no_lines}
 use Rattle.listing.specs.declared.Listing.{Listing}
 use Rattle.listing.specs.Listing.{lines_of, lines_at, onward, state_after, goes_on, received}
 use Rattle.listing.specs.Step.{standing, state_at, step_room, Placed, Stepped}
@@ -44,13 +45,13 @@ module _ (bundle : List ℕ) (before : Panel) (given : Listing) {start size next
   frame_state = rw (frame, ← result)
 
   -- its line is put, and those of the log records
-  pub frame_stepped : {text first last : List ℕ} → Placed bundle given.place given.frames
+  pub taken_stepped : {text first last : List ℕ} → Placed bundle given.place given.frames
       → first ≡ text ++ frame_line (given.frames + 1) answer.number
       → length first ≤ length text + 48
       → last ≡ first ++ hand_lines answer.count output
       → length last ≤ length first + answer.count * 112
       → Stepped bundle (state_at before given) text (standing after (Some (record { place = next; frames = given.frames + 1 }))) last
-  frame_stepped {text} {first} {last} placed line line_short lines lines_short =
+  taken_stepped {text} {first} {last} placed line line_short lines lines_short =
       let few = few_handed in
       let found = step_found bundle given.place start size next frame in
       record {
@@ -62,6 +63,14 @@ module _ (bundle : List ℕ) (before : Panel) (given : Listing) {start size next
         placed = record { few = omega (arith, found.begins, found.ends, placed.few); within = found.within };
         further = omega (arith, found.begins, found.ends);
       }
+
+  -- where it was refused only its line
+  pub refused_stepped : {text last : List ℕ} → Placed bundle given.place given.frames → answer.count ≡ 0
+      → last ≡ text ++ frame_line (given.frames + 1) answer.number
+      → length last ≤ length text + 48
+      → Stepped bundle (state_at before given) text (standing after (Some (record { place = next; frames = given.frames + 1 }))) last
+  refused_stepped {text} {last} placed none line line_short =
+      taken_stepped placed line line_short (rw none (no_lines last output)) (omega (arith, none))
 
 -- the last line was put
 module _ {bundle : List ℕ} {before : Panel} {given : Listing} {text after : List ℕ} where

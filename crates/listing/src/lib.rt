@@ -4,15 +4,15 @@
 
 ghost use Rattle.std.specs.Prelude.{◌≡◌, ◌+◌, ◌≤◌};
 ghost use Rattle.arrayvec.specs.ArrayString.{array_string_len};
-ghost use Rattle.lent.specs.Record.{parts, record_of};
+ghost use Rattle.lent.specs.Record.{parts_of, record_of, SameState, SameWaiting};
 ghost use Rattle.listing.specs.Step.{step_room, standing, state_at, Placed, Stepped};
 
 use arrayvec::ArrayString;
 use bundle::{Step, part_at, step_at};
+use lent::{State, Waiting};
 use lines::{put_frame_line, put_hand_lines};
 use parts::OUTPUT;
 use receiving::receive_in_place;
-use slots::SLOTS;
 
 // The bytes that the longest lines of a step have room in.
 pub const STEP_ROOM: usize = 4096;
@@ -37,24 +37,16 @@ pub fn start() -> Listing
 // One step: puts the lines of the next frame and gives where the listing then stands, or puts the last
 // line and gives none.
 pub fn list_next<const CAP: usize>(
-    own: u8,
-    time: u64,
-    high: &mut u64,
-    count: &mut usize,
-    marks: &mut [u64; 64],
-    barrier: &mut [u64; 64],
-    slots: &mut [u8; SLOTS],
-    floor: &mut u64,
+    state: &mut State,
+    list: &mut Waiting,
     bundle: &[u8],
     listing: Listing,
     text: &mut ArrayString<CAP>,
 ) -> Option<Listing>
     requires { Placed bundle.now listing.place listing.frames × (array_string_len text.old + step_room ≤ CAP) }
-    ensures { Stepped bundle.now
-        (state_at (record_of (parts own time high.old count.old marks.old barrier.old slots.old floor.old)) listing)
-        text.old.bytes
-        (standing (record_of (parts own time high.new count.new marks.new barrier.new slots.new floor.new)) result)
-        text.new.bytes }
+    ensures same { SameState state.old state.new × SameWaiting list.old list.new }
+    ensures stepped { Stepped bundle.now (state_at (record_of (parts_of state.old list.old)) listing) text.old.bytes
+        (standing (record_of (parts_of state.new list.new)) result) text.new.bytes }
 {
     match step_at(bundle, listing.place) {
         Step::Frame {
@@ -63,21 +55,12 @@ pub fn list_next<const CAP: usize>(
             next,
         } => {
             let mut output = [0u8; OUTPUT];
-            let answer = receive_in_place(
-                own,
-                time,
-                high,
-                count,
-                marks,
-                barrier,
-                slots,
-                floor,
-                part_at(bundle, listing.place),
-                &mut output,
-            );
+            let answer = receive_in_place(state, list, part_at(bundle, listing.place), &mut output);
             let frames = listing.frames + 1;
-            put_frame_line(text, frames as u64, answer.number);
-            put_hand_lines(text, &output, answer.count);
+            put_frame_line(text, frames as u64, answer.err());
+            if let Ok(accepted) = answer {
+                put_hand_lines(text, &output, accepted.count);
+            }
             Some(Listing {
                 place: next,
                 frames,

@@ -12,7 +12,7 @@ ghost use Rattle.visits.specs.Visiting.{visits};
 ghost use Rattle.slots.specs.Slots.{Slots, Listed, held};
 ghost use Rattle.choosing.specs.Choice.{asking, first_in, goes_before, considered};
 
-use slots::{Entries, Readable, has_lapsed};
+use slots::{Entries, Places, Readable, has_lapsed};
 
 // The answer of the test for ready, and how many entries of the message were visited.
 #[derive(Clone, Copy)]
@@ -38,7 +38,9 @@ fn is_met(entry: u64, mark: u64, time: u64, floor: u64) -> bool
 }
 
 // Whether a message of that mask is ready: up to the first entry that is not met. (The mask is read
-// before: with it, this would be too long for the compiler to put it into its callers.)
+// before: with it, this would be too long for the compiler to put it into its callers. Marks, time and
+// floor are no struct of their own: they come from a state here and from a view there, and each caller
+// would have to make it.)
 pub fn ready(message: Readable, mask: u64, marks: &[u64; 64], time: u64, floor: u64) -> Tested
     requires { mask ≡ mask_in width message.frame.now }
     ensures ready_value { result.ready ≡ is_ready (asking marks.now time floor) (message_in width message.entry.frame.now) }
@@ -100,20 +102,19 @@ fn consider(
 }
 
 // The ready one of lowest deadline, then lowest source, then earliest in the list.
-pub fn choice<'a, 'b, 'c>(
-    waiting: usize,
-    places: &'a [u8; 32],
-    marks: &'b [u64; 64],
+pub fn choice(
+    list: &Places,
+    slots: &[u8],
+    marks: &[u64; 64],
     time: u64,
     floor: u64,
-    slots: &'c [u8],
 ) -> Option<First>
-    requires { Slots slots.now × Listed slots.now waiting places.now × (length places.now ≡ 32) }
-    ensures { result ≡ first_in (held slots.now (take waiting places.now))
-        (choiceIn (asking marks.now time floor) (held slots.now (take waiting places.now))) }
+    requires { Slots slots.now × Listed slots.now list.now.count list.now.slots × (length list.now.slots ≡ 32) }
+    ensures { result ≡ first_in (held slots.now (take list.now.count list.now.slots))
+        (choiceIn (asking marks.now time floor) (held slots.now (take list.now.count list.now.slots))) }
 {
     let mut first = None;
-    for (place, slot) in places[..waiting].iter().enumerate() {
+    for (place, slot) in list.slots[..list.count].iter().enumerate() {
         let message = Readable::in_slot(slots, *slot as usize);
         first = consider(first, place, message, marks, time, floor);
     }

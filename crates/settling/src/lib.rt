@@ -35,7 +35,7 @@ pub fn settle(state: &mut State, list: &mut Places, slots: &[u8], log: &mut Log)
     ensures same { SameState state.old state.new × (log.new.output.ghost_name ≡ log.old.output.ghost_name) }
     ensures settled { Settles slots.now (stage_of state.old list.old log.old) (stage_of state.new list.new log.new) }
 {
-    let Some(next) = choice(list.count, &list.slots, state.marks, state.time, *state.floor, slots) else {
+    let Some(next) = choice(list, slots, state.marks, state.time, *state.floor) else {
         return;
     };
     let slot = leave(list, next.place) as usize;

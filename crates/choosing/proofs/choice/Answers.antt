@@ -14,24 +14,24 @@ use Rattle.choosing.proofs.choice.Goals as goal
 pub loop-place-init : goal.loop-place-init
 loop-place-init c =
     let a = c.args in
-    sym (first_below-none (asking a.marks.now a.time a.floor) (held a.slots.now (take a.waiting a.places.now)))
+    sym (first_below-none (asking a.marks.now a.time a.floor) (held a.slots.now (take a.list.now.count a.list.now.slots)))
 
 pub in_slot-message-requires : goal.in_slot-message-requires
 in_slot-message-requires c =
     let k = c.loop-place.place in
-    let lt : k < c.args.waiting = omega (arith, length-take-le c.args.waiting c.args.places.now) in
+    let lt : k < c.args.list.now.count = omega (arith, length-take-le c.args.list.now.count c.args.list.now.slots) in
     let listed = c.requires.1 in
-    rw (get_or-take c.args.waiting c.args.places.now k 0 lt) (c.requires.0, listed.below k lt, listed.reads k lt)
+    rw (get_or-take c.args.list.now.count c.args.list.now.slots k 0 lt) (c.requires.0, listed.below k lt, listed.reads k lt)
 
 pub loop-place-preserved : goal.loop-place-preserved
 loop-place-preserved c =
     let a = c.args in
     let k = c.loop-place.place in
-    let lt : k < a.waiting = omega (arith, length-take-le a.waiting a.places.now) in
-    let at = rw (c.in_slot-message.ensures, get_or-take a.waiting a.places.now k 0 lt) at c.consider-first.ensures in
-    rw add-one (first_below_listed (asking a.marks.now a.time a.floor) a.slots.now a.waiting a.places.now k c.requires.1 (omega (arith, c.requires.1.few)) lt _ _ c.loop-place.invariant at)
+    let lt : k < a.list.now.count = omega (arith, length-take-le a.list.now.count a.list.now.slots) in
+    let at = rw (c.in_slot-message.ensures, get_or-take a.list.now.count a.list.now.slots k 0 lt) at c.consider-first.ensures in
+    rw add-one (first_below_listed (asking a.marks.now a.time a.floor) a.slots.now a.list.now.count a.list.now.slots k c.requires.1 (omega (arith, c.requires.1.few)) lt _ _ c.loop-place.invariant at)
 
 pub returns : goal.returns
 returns c =
     let a = c.args in
-    c.loop-place.invariant ∙ first_below_all _ _ c.loop-place.place (omega (arith, length-take-le a.waiting a.places.now, length_listed a.slots.now a.waiting a.places.now, c.requires.1.few))
+    c.loop-place.invariant ∙ first_below_all _ _ c.loop-place.place (omega (arith, length-take-le a.list.now.count a.list.now.slots, length_listed a.slots.now a.list.now.count a.list.now.slots, c.requires.1.few))

@@ -6,4 +6,4 @@ use Rattle.choosing.proofs.Choosing.{first_below}
 use Rattle.choosing.proofs.choice.Given as goal
 
 abbrev pub invariant-loop-place : goal.invariant-loop-place
-invariant-loop-place l = l.first ≡ first_below (asking l.marks l.time l.floor) (held l.slots (take l.waiting l.places)) l.place
+invariant-loop-place l = l.first ≡ first_below (asking l.marks l.time l.floor) (held l.slots (take l.list.count l.list.slots)) l.place

@@ -1,6 +1,6 @@
-// The status beacon in place, for C, on a record that is lent in its parts; `beacon_c` exports it, and
-// include/panel.h makes of it a call on a pointer to the struct. It accepts any input. A crate of its
-// own, as the archive is (`beacon_c` says why).
+// The status beacon in place, for C, which lends a record in its parts, and has numbers; `beacon_c`
+// exports it, and include/panel.h makes of it a call on a pointer to the struct. It accepts any input. A
+// crate of its own, as the archive is (`beacon_c` says why).
 #![tactic(auto)]
 
 ghost use Rattle.rules.specs.Calls.{beacon_lifetime};

@@ -9,7 +9,8 @@ ghost use Rattle.bundle.specs.Bundle.{step_at, Part, FramePart, Gives, answer_of
 use numbers::number_at;
 
 // What stands at a place: a frame, from start on, of so many bytes, and the place behind it; the end;
-// or broken. With end and broken the place stays.
+// or broken. With end and broken the place stays. (Three cases, which the definitions of a listing name
+// too: a result of an option would be no plainer.)
 #[derive(Debug, Clone, Copy, PartialEq, Eq)]
 pub enum Step {
     Frame {

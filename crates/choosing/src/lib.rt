@@ -14,7 +14,7 @@ ghost use Rattle.choosing.specs.Choice.{asking, first_in, goes_before, considere
 
 use slots::{Entries, Places, Readable, has_lapsed};
 
-// The answer of the test for ready, and how many entries of the message were visited.
+// The answer of the test for ready, and how many entries of the message were visited, whichever it is.
 #[derive(Clone, Copy)]
 pub struct Tested {
     pub ready: bool,

@@ -23,7 +23,8 @@ pub const PAYLOAD_AT: usize = LENGTH_AT + 1;
 // The most bytes of a payload.
 const PAYLOAD_MOST: u8 = 32;
 
-// The fields of a log record, with the length of its payload; all 0 where there is none.
+// The fields of a log record, with the length of its payload; all 0 where there is none. (C has this
+// struct.)
 #[repr(C)]
 #[derive(Clone, Copy, Default)]
 pub struct LogFields {

@@ -1,5 +1,6 @@
 // Numbers of several bytes, the highest byte first, in a slice. An internal crate.
-// Precondition: room in the slice; the crates above refuse what is too short.
+// Precondition: room in the slice; the crates above refuse what is too short. (The functions take a slice
+// and a place, and not the part behind it: the promise is about the whole, and says what stays.)
 #![tactic(auto)]
 
 ghost use Rattle.std.specs.Prelude.{◌≡◌, ◌+◌, ◌^◌, ◌≤◌, ◌<◌, length};

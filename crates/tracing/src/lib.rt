@@ -17,7 +17,7 @@ use frame_check::{frame_check, is_narrow};
 use lent::View;
 use parts::broken;
 use slots::{Readable, SLOTS};
-use widening::{first, widen};
+use widening::widen;
 
 // What is shown of a frame: the number that a receive of it with an output long enough would be refused
 // with, or 0; whether the message is ready, and how many of its entries were visited, whatever the
@@ -99,7 +99,7 @@ pub fn panel_trace_parts<'a, 'b>(
     if is_narrow(frame) {
         let mut wide = [0u8; BUFFER];
         let length = widen(frame, &mut wide);
-        return trace_wide(view, first(&wide, length));
+        return trace_wide(view, &wide[..length]);
     }
     trace_wide(view, frame)
 }

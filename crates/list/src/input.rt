@@ -7,6 +7,7 @@ ghost use Rattle.listing.specs.Listing.{listing as listingOf};
 ghost use Rattle.list.specs.Written.{BytesAt, AppendsSome};
 
 use arrayvec::ArrayString;
+use lent::{State, Waiting};
 use listing::start;
 use listing_parts::list_part;
 use slots::SLOTS;
@@ -62,29 +63,23 @@ fn print_listing<W: Write>(writer: &mut W, input: &[u8]) -> io::Result<usize>
     if LONGEST < input.len() {
         return write_part(writer, input, 0, "long\n");
     }
-    let mut high = 0;
-    let mut count = 0;
-    let mut marks = [0u64; 64];
-    let mut barrier = [0u64; 64];
-    let mut slots = [0u8; SLOTS];
-    let mut floor = 0;
+    let mut state = State {
+        own: 0,
+        time: 0,
+        high: &mut 0,
+        marks: &mut [0u64; 64],
+        barrier: &mut [0u64; 64],
+        floor: &mut 0,
+    };
+    let mut list = Waiting {
+        count: &mut 0,
+        slots: &mut [0u8; SLOTS],
+    };
     let mut text = ArrayString::<16384>::new();
     let mut next = Some(start());
     let mut written = 0;
     while let Some(listing) = next {
-        next = list_part(
-            0,
-            0,
-            &mut high,
-            &mut count,
-            &mut marks,
-            &mut barrier,
-            &mut slots,
-            &mut floor,
-            input,
-            listing,
-            &mut text,
-        );
+        next = list_part(&mut state, &mut list, input, listing, &mut text);
         written = write_part(writer, input, written, text.as_str())?;
     }
     Ok(written)

@@ -28,17 +28,17 @@ loop-next-init g c = printing-none c.start.ensures
 
 pub write_part-requires-in-Some : goal.write_part-requires-in-Some
 write_part-requires-in-Some g c =
-    let put = rw (← c.as_str.ensures.value) at c.list_part-next.ensures in
+    let put = rw (← c.as_str.ensures.value) at c.list_part-next.ensures.put in
     part-there (rw c.in-Some.is at c.loop-next.invariant) (omega arith) put c.as_str.ensures.fits
 
 pub returns-in_err-written-clause-err : goal.returns-in_err-written-clause-err
 returns-in_err-written-clause-err g c =
-    let put = rw (← c.as_str.ensures.value) at c.list_part-next.ensures in
+    let put = rw (← c.as_str.ensures.value) at c.list_part-next.ensures.put in
     on_err _ (printing_failed (rw c.in-Some.is at c.loop-next.invariant) (omega arith) put _ c.in_err-written.ensures.err)
 
 pub loop-next-preserved : goal.loop-next-preserved
 loop-next-preserved g c =
-    let put = rw (← c.as_str.ensures.value) at c.list_part-next.ensures in
+    let put = rw (← c.as_str.ensures.value) at c.list_part-next.ensures.put in
     rw c.in_ok-written.ensures.place
     (printing-next (rw c.in-Some.is at c.loop-next.invariant) (omega arith) put c.as_str.ensures.fits c.in_ok-written.ensures.bytes)
 

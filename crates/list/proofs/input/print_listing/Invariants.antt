@@ -1,4 +1,4 @@
-use Rattle.lent.specs.Record.{parts, record_of}
+use Rattle.lent.specs.Record.{parts_of, record_of}
 use Rattle.listing.specs.Step.{standing}
 use Rattle.list.proofs.Printing.{Printing, bytes_left}
 use Rattle.list.proofs.input.print_listing.Given as goal
@@ -6,7 +6,7 @@ use Rattle.list.proofs.input.print_listing.Given as goal
 abbrev pub invariant-loop-next : goal.invariant-loop-next
 invariant-loop-next g l =
     Printing l.input (g.W.Write.contents l.initial.writer) (g.W.Write.contents l.writer)
-    (standing (record_of (parts 0 0 l.high l.count l.marks l.barrier l.slots l.floor)) l.next) l.written
+    (standing (record_of (parts_of l.state l.list)) l.next) l.written
 
 abbrev pub decreases-loop-next : goal.decreases-loop-next
 decreases-loop-next g l = bytes_left l.input l.next

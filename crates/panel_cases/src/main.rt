@@ -5,42 +5,40 @@
 #![tactic(auto)]
 
 use frame::BUFFER;
-use panel::Panel;
+use panel::{Given, Panel};
 use parts::OUTPUT;
-use send_by_value::Sent;
 use std::io;
 use telling::{Told, at, clock, fresh, receive};
 
 // What a send or a beacon has answered; then a fresh panel 0 receives the frame.
-fn pass_on(rt: &impl Print, call: &str, answer: Sent, buffer: &[u8]) -> io::Result<Panel> {
+fn pass_on(rt: &impl Print, call: &str, given: Given, buffer: &[u8]) -> io::Result<Panel> {
     let told = Told {
         call,
-        panel: &answer.panel,
-        number: answer.number,
-        handed: answer.count,
+        given: &given,
     };
     print!(rt; "{told}, frame ")?;
-    let frame = buffer.get(..answer.length).unwrap_or(&[]);
+    let length = given.answer.map_or(0, |accepted| accepted.length);
+    let frame = buffer.get(..length).unwrap_or(&[]);
     for byte in frame {
         print!(rt; "{byte:02x}")?;
     }
     println!(rt)?;
     receive(rt, fresh(rt, 0)?, frame)?;
-    Ok(answer.panel)
+    Ok(given.panel)
 }
 
 fn send(rt: &impl Print, p: Panel, payload: &[u8], lifetime: u16) -> io::Result<Panel> {
     let mut output = [0u8; OUTPUT];
     let mut buffer = [0u8; BUFFER];
-    let answer = send_by_value::panel_send(p, payload, lifetime, &mut output, &mut buffer);
-    pass_on(rt, "send at", answer, &buffer)
+    let given = send_by_value::panel_send(p, payload, lifetime, &mut output, &mut buffer);
+    pass_on(rt, "send at", given, &buffer)
 }
 
 fn beacon(rt: &impl Print, p: Panel, payload: &[u8]) -> io::Result<Panel> {
     let mut output = [0u8; OUTPUT];
     let mut buffer = [0u8; BUFFER];
-    let answer = send_by_value::panel_beacon(p, payload, &mut output, &mut buffer);
-    pass_on(rt, "beacon at", answer, &buffer)
+    let given = send_by_value::panel_beacon(p, payload, &mut output, &mut buffer);
+    pass_on(rt, "beacon at", given, &buffer)
 }
 
 // Case 2's frame in version 1, which waits, and then in version 2, which is the same message.

@@ -3,39 +3,37 @@
 // internal crate.
 #![tactic(auto)]
 
-use panel::Panel;
-use parts::OUTPUT;
+use panel::{Given, Panel};
+use parts::{Answer, OUTPUT};
 use std::{fmt, io};
 
-// What a call has answered, and the panel after it.
+// A call, and what it has given back.
 #[derive(Clone, Copy)]
 pub struct Told<'a> {
     pub call: &'a str,
-    pub panel: &'a Panel,
-    pub number: u8,
-    pub handed: usize,
+    pub given: &'a Given,
 }
 
 impl fmt::Display for Told<'_> {
     fn fmt<W: fmt::Write>(&self, f: &mut fmt::Formatter<W>) -> fmt::Result {
+        let panel = &self.given.panel;
+        let answer = Answer::from(self.given.answer);
         write!(
             f,
             "{} panel {}: {}, handed {}, waiting {}",
-            self.call, self.panel.own, self.number, self.handed, self.panel.count,
+            self.call, panel.own, answer.number, answer.count, panel.count,
         )
     }
 }
 
 pub fn fresh(rt: &impl Print, own: u8) -> io::Result<Panel> {
-    let answer = panel::panel_fresh(own);
+    let given = panel::panel_fresh(own);
     let told = Told {
         call: "fresh",
-        panel: &answer.panel,
-        number: answer.number,
-        handed: 0,
+        given: &given,
     };
     println!(rt; "{told}")?;
-    Ok(answer.panel)
+    Ok(given.panel)
 }
 
 // A trace of a frame, and then its receive.
@@ -44,44 +42,38 @@ pub fn receive(rt: &impl Print, p: Panel, frame: &[u8]) -> io::Result<Panel> {
     let ready = if trace.ready { ", ready" } else { "" };
     println!(rt; "trace: {}{ready}, visited {}", trace.number, trace.visited)?;
     let mut output = [0u8; OUTPUT];
-    let answer = by_value::panel_receive(p, frame, &mut output);
+    let given = by_value::panel_receive(p, frame, &mut output);
     let told = Told {
         call: "receive at",
-        panel: &answer.panel,
-        number: answer.number,
-        handed: answer.count,
+        given: &given,
     };
     println!(rt; "{told}")?;
-    Ok(answer.panel)
+    Ok(given.panel)
 }
 
 pub fn clock(rt: &impl Print, p: Panel, time: u64) -> io::Result<Panel> {
     let mut output = [0u8; OUTPUT];
-    let answer = by_value::panel_clock(p, time, &mut output);
+    let given = by_value::panel_clock(p, time, &mut output);
     let told = Told {
         call: "clock at",
-        panel: &answer.panel,
-        number: answer.number,
-        handed: answer.count,
+        given: &given,
     };
-    println!(rt; "{told}, time {}", answer.panel.time)?;
-    Ok(answer.panel)
+    println!(rt; "{told}, time {}", given.panel.time)?;
+    Ok(given.panel)
 }
 
 // The time after it, and the floor, which it leaves.
 pub fn set_back(rt: &impl Print, p: Panel, reading: u64) -> io::Result<Panel> {
-    let answer = by_value::panel_set_back(p, reading);
+    let given = by_value::panel_set_back(p, reading);
     let told = Told {
         call: "set back at",
-        panel: &answer.panel,
-        number: answer.number,
-        handed: 0,
+        given: &given,
     };
     println!(rt;
         "{told}, time {}, floor {}",
-        answer.panel.time, answer.panel.floor
+        given.panel.time, given.panel.floor
     )?;
-    Ok(answer.panel)
+    Ok(given.panel)
 }
 
 // A fresh panel whose clock shows a time.

@@ -99,13 +99,6 @@ pub fn frame_check(frame: &[u8]) -> Result<(), Refusal>
     check(frame, version_in(frame))
 }
 
-// 0, or the refusal number of the reading.
-pub fn frame_number(frame: &[u8]) -> u8
-    ensures { result ≡ refusal_of frame.now }
-{
-    number_in(frame_check(frame))
-}
-
 // Whether the bytes read as a message in version 1.
 pub fn is_narrow(frame: &[u8]) -> bool
     ensures { result ≡ (refusal narrow frame.now == 0) }

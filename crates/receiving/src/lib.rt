@@ -26,7 +26,7 @@ use handing::{Log, hand};
 use lent::{State, View, Waiting};
 use parts::{Accepted, settle_slots};
 use slot_moves::put_frame;
-use slots::{Places, Readable, in_order};
+use slots::{Places, Readable};
 use widening::{first, widen};
 
 // Takes a message: a ready one is handed without entering the list, any other goes to its end.
@@ -42,7 +42,8 @@ fn take(state: &mut State, list: &mut Waiting, log: &mut Log, message: Readable)
         list.old.slots.now (stage_at (known state.old) list.old.count.now (first_slots 32) log.old.count log.old.output.now)
         list.new.slots.now (stage_at (known state.new) list.new.count.now (first_slots 32) log.new.count log.new.output.now) }
 {
-    if ready(message, message.mask(), state.marks, state.time, *state.floor).ready {
+    let floor = *state.floor;
+    if ready(message, message.mask(), state.marks, state.time, floor).ready {
         hand(state, log, message);
         return;
     }
@@ -66,10 +67,7 @@ fn receive_wide(
     check_receive(View::of(state, list), frame, output)?;
     let mut log = Log { output, count: 0 };
     take(state, list, &mut log, Readable { frame });
-    let places = Places {
-        count: *list.count,
-        slots: in_order(),
-    };
+    let places = Places::first(*list.count);
     settle_slots(state, list, places, &mut log);
     Ok(Accepted {
         count: log.count,

@@ -99,16 +99,16 @@ module _ {p : Parts} {payload : List ℕ} {lifetime : ℕ} {output buffer : List
       (record { own = p.own; time = p.time; high = max p.high new.deadline; waiting = p.count; handed = 1; floor = risen new })
       (first_slots 32) (raise p.marks new) (raise (shortened none64 new.entries) new) (over output 0 (log_record new))
 
-  pub stage_handed : (part : List ℕ) → part ≡ frame width new → (knows : Known) (handed : ℕ) (places written : List ℕ)
+  pub stage_handed : (part : List ℕ) → part ≡ frame width new → (knows : Known) (handed : ℕ) (written : List ℕ)
       → let m = message_in width part in
       knows
       ≡ with_handed (record { own = p.own; time = p.time; high = p.high; marks = p.marks; barrier = none64; floor = p.floor })
-          (max p.high m.deadline) (raise p.marks m) (raise (shortened none64 m.entries) m) (risen m)
-      → handed ≡ 1 → places ≡ first_slots 32 → written ≡ over output 0 (log_record m)
-      → stage_at knows p.count places handed written ≡ handed_stage
-  stage_handed part is knows handed places written ek eh ep eo =
+      (max p.high m.deadline) (raise p.marks m) (raise (shortened none64 m.entries) m) (risen m)
+      → handed ≡ 1 → written ≡ over output 0 (log_record m)
+      → stage_at knows p.count (first_slots 32) handed written ≡ handed_stage
+  stage_handed part is knows handed written ek eh eo =
       let message : message_in width part ≡ new = ap (message_in width) is ∙ frame-message width new (omega arith) readable in
-      rw (ek, eh, ep, eo, message)
+      rw (ek, eh, eo, message)
 
   panel_handed : Kept p.slots p.count → panel_at p.slots handed_stage ≡ hand (emptied given) new
   unfolding hand barrier_for

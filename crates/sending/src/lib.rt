@@ -17,7 +17,7 @@ use handing::{Log, hand};
 use lent::{State, View, Waiting};
 use lifetimes::{passes_last, send_deadline};
 use parts::{Accepted, OUTPUT, broken, settle_slots};
-use slots::{Places, Readable, in_order};
+use slots::{Places, Readable};
 use writing::write;
 
 // The first check that turns down a send: 26, 10, 9, 24.
@@ -71,10 +71,7 @@ pub fn send_in_place(
     let frame = &buffer[0..length];
     let mut log = Log { output, count: 0 };
     hand(state, &mut log, Readable { frame });
-    let places = Places {
-        count: *list.count,
-        slots: in_order(),
-    };
+    let places = Places::first(*list.count);
     settle_slots(state, list, places, &mut log);
     Ok(Accepted {
         count: log.count,

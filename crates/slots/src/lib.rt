@@ -6,12 +6,9 @@
 mod entries;
 mod readable;
 
-ghost use Rattle.std.specs.Prelude.{◌≡◌, ◌&&◌, ◌<◌, eqb};
-ghost use Rattle.frame.specs.Reading.{message_in};
-ghost use Rattle.rules.specs.Sizes.{width};
+ghost use Rattle.std.specs.Prelude.{◌≡◌, ◌<◌};
 ghost use Rattle.rules.specs.Panel.{has_lapsed};
-ghost use Rattle.slots.specs.Slots.{Reads, Slots, Fits, Kept, first_slots, held};
-ghost use Rattle.slots.specs.Slots.{frame_at as frameIn};
+ghost use Rattle.slots.specs.Slots.{Slots, Fits, Kept, first_slots, frame_at};
 ghost use Rattle.slots.specs.Alive.{Alive};
 
 pub use entries::Entries;
@@ -33,31 +30,28 @@ pub struct Places {
     pub slots: [u8; 32],
 }
 
+impl Places {
+    // The first slots, so many of them.
+    pub fn first(count: usize) -> Places
+        ensures { (result.count ≡ count) × (result.slots ≡ first_slots 32) }
+    {
+        Places {
+            count,
+            slots: array::from_fn(|slot| slot as u8),
+        }
+    }
+}
+
 // The frame in a slot that has room for it. The length is read only where it is asked for.
-pub fn kept_frame(slots: &[u8], slot: usize) -> &[u8]
+fn kept_frame(slots: &[u8], slot: usize) -> &[u8]
     requires { Slots slots.now × (slot < 32) × Fits slots.now slot }
-    ensures { result.now ≡ frameIn slots.now slot }
+    ensures { result.now ≡ frame_at slots.now slot }
 {
     let at = slot * SLOT;
     let length = number_at(slots, at, 2) as usize;
     let start = at + 2;
     let end = start + length;
     &slots[start..end]
-}
-
-// The source and the deadline of a readable frame.
-pub fn source(frame: &[u8]) -> u8
-    requires { Reads frame.now }
-    ensures { result ≡ (message_in width frame.now).source }
-{
-    Readable { frame }.source()
-}
-
-pub fn deadline(frame: &[u8]) -> u64
-    requires { Reads frame.now }
-    ensures { result ≡ (message_in width frame.now).deadline }
-{
-    Readable { frame }.deadline()
 }
 
 // Whether a deadline has lapsed at a panel of that time and floor: it is below the time, or at most the
@@ -86,11 +80,4 @@ pub fn alive(slots: &[u8], count: usize, time: u64, floor: u64) -> Places
         count: kept,
         slots: places,
     }
-}
-
-// The slots in order.
-pub fn in_order() -> [u8; 32]
-    ensures { result ≡ first_slots 32 }
-{
-    array::from_fn(|slot| slot as u8)
 }

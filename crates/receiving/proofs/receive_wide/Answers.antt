@@ -1,11 +1,9 @@
 -- `receiving::receive_wide` meets its contract: a refusal is the first check that applies, and the rest is document 01's receive. Assumes nothing.
-use Rattle.std.proofs.Common.{◌≡◌, ℕ, List, refl, sym, ap, ◌∙◌, arith, rules}
-use Rattle.frame.specs.Refusal.{first_of}
-use Rattle.rules.specs.Refusals.{receive_checks}
+use Rattle.std.proofs.Common.{refl, sym, ◌∙◌, arith, rules}
 use Rattle.rules.specs.Results.{receive}
 use Rattle.rules.proofs.Checks.{receive_passed}
 use Rattle.slots.specs.Slots.{first_slots}
-use Rattle.lent.specs.Record.{Parts, known, parts_of, record_of}
+use Rattle.lent.specs.Record.{known, parts_of, record_of}
 use Rattle.settling.specs.Record.{stage_at}
 use Rattle.parts.proofs.Answering.{refused_in_place, valid_kept}
 use Rattle.checking.proofs.Checking.{wide_reads, wide-message}
@@ -46,7 +44,7 @@ take-requires-clause-room c =
     omega (arith, (receive_passed (record_of lent) a.frame.now a.output.now passed).output_room)
 
 pub settle_slots-requires-clause-slots : goal.settle_slots-requires-clause-slots
-settle_slots-requires-clause-slots c = rw c.in_order.ensures c.take.ensures.taken.listed
+settle_slots-requires-clause-slots c = rw (c.first-places.ensures.0, c.first-places.ensures.1) c.take.ensures.taken.listed
 
 pub settle_slots-requires-clause-room : goal.settle_slots-requires-clause-room
 settle_slots-requires-clause-room c =
@@ -63,7 +61,7 @@ returns-clause-promised c =
     let passed = sym (c.in_ok-check_receive.ensures ∙ seen_checked a.frame.now a.output.now c.of.ensures) in
     let checked = receive_passed (record_of lent) a.frame.now a.output.now passed in
     let new = c.settle_slots.new in
-    let settles = rw c.in_order.ensures at c.settle_slots.ensures.settled in
+    let settles = rw (c.first-places.ensures.0, c.first-places.ensures.1) at c.settle_slots.ensures.settled in
     let done =
     received-done lent a.frame.now a.output.now (valid_kept lent checked.valid) (wide_reads a.frame.now c.requires checked.read)
     (wide-message a.frame.now c.requires checked.read) _ _ c.take.ensures.taken new.list.slots.now

@@ -1,5 +1,5 @@
 -- `receiving::take` meets its contract: a ready message is handed, any other is put behind those that wait. Assumes nothing.
-use Rattle.std.proofs.Common.{sym, refl, ◌∙◌, rules}
+use Rattle.std.proofs.Common.{sym, ◌∙◌, rules}
 use Rattle.lent.specs.Record.{known}
 use Rattle.receiving.proofs.Taking.{room_unready, length_reads, taken_handed, taken_waiting}
 use Rattle.receiving.proofs.take.Goals as goal

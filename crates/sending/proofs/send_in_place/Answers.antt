@@ -98,7 +98,7 @@ settle_slots-requires-clause-slots c =
     let n = numbered lent a.payload.now a.lifetime a.output.now a.buffer.now _ _ _ (seen_broken c.of.ensures c.broken-broken.ensures) c.passes_last-passes.ensures c.in_ok-check.ensures in
     let P : Passed lent a.payload.now a.lifetime a.output.now a.buffer.now =
     record { bytes = λ i. omega (arith, c.type_inv.payload i); panels = c.write.ensures.panels; passed = sym n } in
-    rw c.in_order.ensures (listed_order _ _ (valid_kept lent (checked P).valid))
+    rw (c.first-places.ensures.0, c.first-places.ensures.1) (listed_order _ _ (valid_kept lent (checked P).valid))
 
 pub settle_slots-requires-clause-room : goal.settle_slots-requires-clause-room
 unfolding send_deadline
@@ -123,10 +123,10 @@ returns-clause-promised c =
     let size = same_size c.unwrap-length.ensures (wrote.0 ∙ length-written P) in
     let put = wrote.1 ∙ buffer-written P in
     let handed = c.hand.ensures.handed in
-    let begun = stage_handed P _ (part f a.buffer.now _ _ size put) (known c.hand.new.state) c.hand.new.log.count c.in_order.result
-    c.hand.new.log.output.now handed.known handed.log.count c.in_order.ensures handed.log.output in
+    let begun = stage_handed P _ (part f a.buffer.now _ _ size put) (known c.hand.new.state) c.hand.new.log.count
+    c.hand.new.log.output.now handed.known handed.log.count handed.log.output in
     let new = c.settle_slots.new in
-    let settles = rw begun at c.settle_slots.ensures.settled in
+    let settles = rw (c.first-places.ensures.0, c.first-places.ensures.1, begun) at c.settle_slots.ensures.settled in
     let done =
     sent-done P (valid_kept lent (checked P).valid) new.list.slots.now
     (stage_at (known new.state) new.list.count.now (first_slots 32) new.log.count new.log.output.now) _ settles settles.panel _ _ size put in

@@ -1,23 +1,22 @@
 -- The checks of a message that was read, one after the other. Assumes nothing.
-use Prim.Native.Nat.{ℕ, ◌+◌, ◌≤◌, ◌<◌}
+use Prim.Native.Nat.{ℕ, ◌≤◌, ◌<◌}
 use native.Mathlib.Omega.{arith}
-use mathlib.Core.Path.{◌≡◌, refl, sym}
+use mathlib.Core.Path.{◌≡◌, refl}
 use mathlib.Core.Bool.{Bool, true, false, ◌&&◌}
-use mathlib.Core.List.{List, []}
-use lib.ListN.{length, get_or}
+use mathlib.Core.List.{List}
+use lib.ListN.{length}
 use lib.Dec.{leb}
-use borrow.Author.Tests.{lt-ltb, le-ltb, le-leb, lt-leb, eq-eqb, ne_eqb}
+use borrow.Author.Tests.{le-leb, lt-leb}
 use Rattle.frame.specs.Message.{Message}
 use Rattle.frame.specs.Refusal.{first_of}
 use Rattle.frame.specs.Reading.{message_in}
 use Rattle.frame.proofs.Passed.{zero_passed}
 use Rattle.rules.specs.Sizes.{width}
 use Rattle.slots.specs.Slots.{Reads}
-use Rattle.frame.proofs.FirstOf.{Past, pass, stop, each_number, Past-take, first_of_take}
-use Rattle.rules.specs.Panel.{Panel, has_lapsed, lapsed, met, ready}
-use Rattle.rules.specs.Refusals.{is_waiting, farthest_ahead, too_far_ahead, message_checks}
+use Rattle.frame.proofs.FirstOf.{each_number, Past-take, first_of_take}
+use Rattle.rules.specs.Panel.{Panel, lapsed, met, ready}
+use Rattle.rules.specs.Refusals.{message_checks}
 use Rattle.choosing.specs.Choice.{asking}
-use Rattle.lent.specs.Record.{parts, record_of}
 use Rattle.checking.specs.Checks.{early_checks, full_number}
 
 -- the source of bytes that read is one of the 64 panels

@@ -77,9 +77,7 @@ pub fn panel_send_parts(
         floor,
     };
     let mut list = Waiting { count, slots };
-    Answer::from(send_in_place(
-        &mut state, &mut list, payload, lifetime, output, buffer,
-    ))
+    Answer::from(send_in_place(&mut state, &mut list, payload, lifetime, output, buffer))
 }
 
 // A frame is received: the log records stand in the output.

@@ -1,5 +1,5 @@
 -- The numbers that a message raises as it is put into the log. Assumes nothing.
-use Rattle.std.proofs.Common.{◌≡◌, refl, sym, ap, ◌∙◌, ℕ, ◌<◌, List, max, get_or, slice_index_or, slice_set, arith}
+use Rattle.std.proofs.Common.{◌≡◌, refl, ℕ, ◌<◌, List, max, slice_index_or, slice_set, arith}
 use lib.ListN.{set}
 use Rattle.frame.specs.Message.{Message}
 use Rattle.frame.specs.Reading.{message_in}

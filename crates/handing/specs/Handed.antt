@@ -26,5 +26,5 @@ pub record IsLogged (m : Message) (p : Known) (before : Log) (q : Known) (after 
 pub record IsHanded (m : Message) (p : Known) (before : Log) (q : Known) (after : Log) : Type 0 where
   pub known : q
       ≡ with_handed p (max p.high m.deadline) (raise p.marks m) (raise (shortened p.barrier m.entries) m)
-          (max p.floor (missed p.time p.floor (λ panel. get_or p.marks panel 0) m.entries))
+      (max p.floor (missed p.time p.floor (λ panel. get_or p.marks panel 0) m.entries))
   pub log : InOutput m before after

@@ -1,5 +1,5 @@
 -- The answers of the calls: turned down, or done. Assumes nothing.
-use Rattle.std.proofs.Common.{◌≡◌, ℕ, ◌*◌, List, [], ◌∷◌, ◌++◌, length, sym, refl, ap, ◌∙◌, ap₂, append_assoc, arith, length-append}
+use Rattle.std.proofs.Common.{◌≡◌, ℕ, ◌*◌, List, [], ◌∷◌, ◌++◌, length, sym, refl, ap, ◌∙◌, append_assoc, arith, length-append}
 use Rattle.numbers.specs.Buffer.{over}
 use Rattle.numbers.proofs.Over.{over-over}
 use Rattle.frame.specs.Message.{Message}
@@ -15,7 +15,6 @@ use Rattle.rules.specs.Handing.{log_records}
 use Rattle.rules.specs.Settling.{Settled, settle, with_waiting}
 use Rattle.rules.specs.Results.{Call, checks_of, effect_of, frame_of, output_of, buffer_of, refused, done, unless, defined, Promised}
 use Rattle.rules.proofs.Checks.{Valid, true-each_readable}
-use Rattle.rules.proofs.Settling.{settle_settles}
 use Rattle.rules.proofs.Results.{defined-number}
 use Rattle.rules.proofs.Theorems.{refusal_unchanged}
 use Rattle.slots.specs.Slots.{Kept, held, first_slots}
@@ -25,7 +24,7 @@ use Rattle.slot_moves.specs.Moves.{Gathered}
 use Rattle.slot_moves.proofs.Kept.{held_gathered}
 use Rattle.settling.specs.Record.{Stage, stage, panel_at, output_place, Settles}
 use Rattle.settling.specs.Record.{Settling}
-use Rattle.lent.specs.Record.{Parts, parts, record_of}
+use Rattle.lent.specs.Record.{Parts, record_of}
 use Rattle.parts.specs.declared.answer.Accepted.{Accepted}
 use Rattle.parts.specs.Answers.{answer_of}
 use Rattle.parts.specs.Record.{PromisedInPlace, SettlesSlots}

@@ -9,7 +9,7 @@ ghost use Rattle.std.specs.Prelude.{◌≡◌, ◌+◌, ◌*◌, ◌≤◌, ◌&
 ghost use Rattle.frame.specs.Readable.{each_below};
 ghost use Rattle.rules.specs.Sizes.{log_record_length};
 ghost use Rattle.rules.specs.Refusals.{broken as is_broken};
-ghost use Rattle.slots.specs.Slots.{Slots, Listed, first_slots};
+ghost use Rattle.slots.specs.Slots.{Listed, first_slots};
 ghost use Rattle.settling.specs.Record.{stage_at, stage_of};
 ghost use Rattle.lent.specs.Record.{known, parts_in, record_of, SameState, SameWaiting};
 ghost use Rattle.parts.specs.Joined.{Joined};

@@ -3,7 +3,6 @@ use Prim.Native.Nat.{ℕ, min}
 use mathlib.Core.Path.{◌≡◌, refl}
 use mathlib.Core.Bool.{true, false}
 use mathlib.Core.List.{[]}
-use native.Mathlib.Omega.{arith}
 use Rattle.numbers.proofs.Over.{over-nil}
 use Rattle.frame.specs.Refusal.{first_of}
 use Rattle.rules.specs.Handing.{log_records}

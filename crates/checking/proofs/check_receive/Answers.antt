@@ -1,12 +1,11 @@
 -- `checking::check_receive` meets its contract: the checks of the frame, and then those of its message. Assumes nothing.
-use Rattle.std.proofs.Common.{◌≡◌, ℕ, Bool, List, sym, ap, ◌∙◌, arith}
+use Rattle.std.proofs.Common.{sym, ap, ◌∙◌, arith}
 use Rattle.frame.specs.Message.{Message}
 use Rattle.frame.specs.Refusal.{first_of}
 use Rattle.frame.proofs.Refusals.{number_of_pos, number_in_given}
 use Rattle.rules.specs.Refusals.{message_checks}
 use Rattle.lent.specs.Record.{parts_in, record_of}
 use Rattle.parts.proofs.Answering.{valid_kept}
-use Rattle.checking.specs.Checks.{frame_checks_on}
 use Rattle.checking.proofs.Checking.{wide_reads, wide-message, framed, frame_refused, frame_through, through_reads, through_valid}
 use Rattle.checking.proofs.check_receive.Goals as goal
 

@@ -1,11 +1,10 @@
 -- `clocking::clock_in_place` meets its contract: a refusal is the first check that applies, and the rest is document 01's clock. Assumes nothing.
-use Rattle.std.proofs.Common.{rules, ◌≡◌, List, ℕ, sym, refl, ap, ◌∙◌, arith}
+use Rattle.std.proofs.Common.{rules, sym, refl, arith}
 use Rattle.rules.specs.Results.{clock}
 use Rattle.rules.proofs.Checks.{clock_passed}
 use Rattle.slots.specs.Slots.{first_slots}
 use Rattle.lent.specs.Record.{known, record_of, parts_of}
 use Rattle.settling.specs.Record.{stage_at}
-use Rattle.parts.specs.Record.{PromisedInPlace}
 use Rattle.parts.proofs.Answering.{refused_in_place, valid_kept}
 use Rattle.parts.proofs.Refusing.{seen_broken}
 use Rattle.clocking.proofs.ClockDone.{numbered, clocked_done}
@@ -41,7 +40,7 @@ returns-clause-promised c =
     let settles = c.settle_slots.ensures.settled in
     let done =
     clocked_done lent a.reading a.output.now _ c.alive-places.ensures new.list.slots.now
-      (stage_at (known new.state) new.list.count.now (first_slots 32) new.log.count new.log.output.now) _ (sym n) settles settles.panel in (
+    (stage_at (known new.state) new.list.count.now (first_slots 32) new.log.count new.log.output.now) _ (sym n) settles settles.panel in (
       search (rules, done),
       λ refuses. absurd (refuses refl),
     )

@@ -1,7 +1,5 @@
 -- `parts::broken` meets its contract: its tests are those of 26, in their order. Assumes nothing.
-use Rattle.std.proofs.Common.{not, ap, sym, refl, ◌∙◌, arith}
-use borrow.Author.Tests.{not-true, not-false}
-use Rattle.rules.specs.Refusals.{broken}
+use Rattle.std.proofs.Common.{not, ap, sym, ◌∙◌, arith}
 use Rattle.slots.proofs.Held.{length-first_slots}
 use Rattle.lent.specs.Record.{parts_in, record_of}
 use Rattle.parts.proofs.Refusing.{broken_own, broken_above, broken_count, waiting_decides}

@@ -1,7 +1,6 @@
 -- `settling::leave` meets its contract: the places before i have moved, those from i on have not. Assumes nothing.
 use mathlib.Core.Path.{refl}
 use native.Mathlib.Omega.{arith}
-use Rattle.settling.proofs.Leaving.{moved_none, moved_more}
 use Rattle.settling.proofs.leave.Goals as goal
 
 pub returns : goal.returns

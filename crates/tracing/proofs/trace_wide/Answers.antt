@@ -12,7 +12,7 @@ use Rattle.visits.specs.Visiting.{visits}
 use Rattle.choosing.specs.Choice.{asking}
 use Rattle.lent.specs.Record.{parts_in, record_of}
 use Rattle.parts.proofs.Answering.{valid_kept}
-use Rattle.checking.proofs.Checking.{wide_reads, wide-message}
+use Rattle.checking.proofs.Checking.{wide-message}
 use Rattle.tracing.proofs.Showing.{number-broken, number_unread, number_read, shown_unread, shown_read}
 use Rattle.tracing.proofs.trace_wide.Goals as goal
 

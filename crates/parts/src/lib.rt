@@ -79,10 +79,6 @@ pub fn broken(view: View) -> bool
     if !none_above(view.marks, view.barrier, view.high) {
         return true;
     }
-    // (Two calls: so the compiler keeps all_read a function of its own, and the tests above stand in each call.)
-    if view.count == 32 {
-        return !all_read(slots, 32);
-    }
     if 32 < view.count {
         return true;
     }

@@ -62,7 +62,9 @@ fn holds_frame(slot: &[u8]) -> bool
     (head / LENGTH_UNIT) as usize + 1 == at + length
 }
 
-// Whether each of the first slots holds a readable frame.
+// Whether each of the first slots holds a readable frame. (A function of its own in the code too: so the
+// tests before it stand in each call that makes it.)
+#[inline(never)]
 pub fn all_read(slots: &[u8], count: usize) -> bool
     requires { Slots slots.now × (count ≤ 32) }
     ensures { result ≡ each_readable (held slots.now (first_slots count)) }

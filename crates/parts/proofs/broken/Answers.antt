@@ -12,14 +12,6 @@ pub returns-then-not-none_above : goal.returns-then-not-none_above
 returns-then-not-none_above c =
     sym (broken_above (record_of (parts_in c.args.view)) (sym c.none_above.ensures ∙ c.if-not-none_above.true))
 
-pub returns-then-view-eq32 : goal.returns-then-view-eq32
-returns-then-view-eq32 c =
-    let full = c.if-view-eq32.true in
-    ap not c.all_read.ensures
-    ∙ rw (← full)
-    (waiting_decides (parts_in c.args.view) _ c.if-view-gt63.false c.none_above.ensures c.if-not-none_above.false
-    (omega (arith, full)))
-
 pub returns-then-view-gt32 : goal.returns-then-view-gt32
 returns-then-view-gt32 c =
     let view = c.args.view in
@@ -27,5 +19,5 @@ returns-then-view-gt32 c =
 
 pub returns : goal.returns
 returns c =
-    ap not c.all_read-2.ensures
+    ap not c.all_read.ensures
     ∙ waiting_decides (parts_in c.args.view) _ c.if-view-gt63.false c.none_above.ensures c.if-not-none_above.false c.if-view-gt32.false

@@ -2,13 +2,15 @@
 use mathlib.Core.Path.{◌≡◌, refl, sym, ap, ◌∙◌}
 use mathlib.Core.Bool.{Bool, true, false}
 use mathlib.Core.List.{List, [], ◌∷◌}
-use Prim.Native.Nat.{ℕ, zero, suc, ◌+◌, ◌-◌, ◌^◌, ◌≤◌, ◌<◌}
+use Prim.Native.Nat.{ℕ, zero, suc, ◌+◌, ◌-◌, ◌*◌, ◌^◌, ◌≤◌, ◌<◌}
 use native.Mathlib.Nat.{add-zero}
 use native.Mathlib.Numerals.{add-one}
 use native.Mathlib.Omega.{arith}
-use lib.ListN.{get_or}
+use lib.ListN.{length, get_or}
 use lib.Count.{ones_in}
+use lib.Bits.{bit_and}
 use borrow.Author.Tests.{le-leb}
+use Rattle.numbers.specs.Numbers.{number_at}
 use Rattle.frame.specs.Reading.{mask_in, message_in}
 use Rattle.frame.proofs.Passed.{zero_passed, mask_of_passed}
 use Rattle.rules.specs.Sizes.{width}
@@ -17,8 +19,8 @@ use Rattle.visits.specs.Visiting.{visits, ones_of}
 use Rattle.rules.proofs.Ready.{each_panel-true}
 use Rattle.visits.proofs.Visiting.{visits_stop, visits_counted}
 use Rattle.slots.specs.Slots.{Reads}
-use Rattle.slots.specs.Entries.{Turn, next}
-use Rattle.slots.proofs.Walk.{entry_of, length_entries, Walk, walk_start, end_none, end_passed, turn_lt, turn_passed, turn_entry, turn_above, turn_skips, walk_on}
+use Rattle.slots.proofs.SetBits.{next}
+use Rattle.slots.proofs.Walk.{entry_of, length_entries, Walk, walk_start, end_none, end_passed, turn_lt, turn_room, turn_passed, turn_entry, turn_above, turn_skips, walk_on}
 use Rattle.choosing.specs.Choice.{asking}
 
 -- an entry beside the mark of its panel
@@ -69,6 +71,11 @@ module _ (bs marks : List ℕ) (time floor : ℕ) where
   unfolding each_panel
   met_start fits = record { walk = walk_start bs fits; all_met = refl }
 
+-- in a turn the entry stands in the frame
+pub met_room : {bs marks : List ℕ} {time floor bits visited : ℕ} → MetBelow bs marks time floor bits visited → (bits ≡ 0 → ⊥) → Reads bs
+    → 14 + width + width * visited + width ≤ length bs
+met_room m some reads = turn_room m.walk some reads
+
 -- no bit is left
 module _ (bs marks : List ℕ) (time floor bits visited : ℕ) (m : MetBelow bs marks time floor bits visited) (none : bits ≡ 0) where
   pub end_ready : ready (asking marks time floor) (message_in width bs) ≡ true
@@ -85,42 +92,31 @@ module _ (bs marks : List ℕ) (time floor bits visited : ℕ) (m : MetBelow bs 
       omega (arith, end_passed m.walk none, mask_ones bs reads m.walk.fits, (visits_counted (asking marks time floor) (message_in width bs) (length_entries bs)).all_met end_ready)
 
 -- a turn, to the next panel whose bit is set
-module _ {bs marks : List ℕ} {time floor bits visited : ℕ} (m : MetBelow bs marks time floor bits visited) {panel entry rest count : ℕ}
-    (turn : Turn bs bits visited panel entry rest count) where
-  abbrev met_now : Bool
-  met_now = met_by (get_or marks panel 0) time floor entry
+module _ (bs marks : List ℕ) (time floor bits visited : ℕ) (m : MetBelow bs marks time floor bits visited) (some : bits ≡ 0 → ⊥) where
+  abbrev pub met_now : Bool
+  met_now = met_by (get_or marks (next bits) 0) time floor (number_at bs (14 + width + width * visited) width)
 
   turn_met : met_at bs marks time floor (next bits) ≡ met_now
-  turn_met =
-      met_at_entry bs marks time floor (next bits) entry (turn_entry m.walk turn.some ∙ sym turn.is)
-      ∙ ap (λ (k : ℕ). met_by (get_or marks k 0) time floor entry) (sym turn.at)
+  turn_met = met_at_entry bs marks time floor (next bits) (number_at bs (14 + width + width * visited) width) (turn_entry m.walk some)
 
   -- the entries of the panels before it are met
   all_before : each_panel (next bits) (met_at bs marks time floor) ≡ true
   all_before =
-      let from = m.walk.panel in
-      let reached : next bits ≡ from + (next bits - from) = omega (arith, turn_above m.walk turn.some) in
+      let panel = m.walk.panel in
+      let reached : next bits ≡ panel + (next bits - panel) = omega (arith, turn_above m.walk some) in
       ap (λ (n : ℕ). each_panel n (met_at bs marks time floor)) reached
-      ∙ met_at_skip bs marks time floor from (next bits - from) (λ k above lt. turn_skips m.walk turn.some k above (omega (arith, reached))) m.all_met
+      ∙ met_at_skip bs marks time floor panel (next bits - panel) (λ k above lt. turn_skips m.walk some k above (omega (arith, reached))) m.all_met
 
   -- it is not met: the test stops, and has visited it
   pub stop_ready : met_now ≡ false → ready (asking marks time floor) (message_in width bs) ≡ false
-  stop_ready f = ready_unmet bs marks time floor (next bits) (turn_lt m.walk turn.some) (turn_met ∙ f)
+  stop_ready f = ready_unmet bs marks time floor (next bits) (turn_lt m.walk some) (turn_met ∙ f)
 
-  pub stop_visits : Reads bs → met_now ≡ false → count ≡ visits (asking marks time floor) (message_in width bs)
+  pub stop_visits : Reads bs → met_now ≡ false → visited + 1 ≡ visits (asking marks time floor) (message_in width bs)
   stop_visits reads f =
       let stop = visits_stop (asking marks time floor) (message_in width bs) (next bits) all_before (turn_met ∙ f) in
-      omega (
-        arith,
-        turn.counted,
-        turn_passed m.walk turn.some,
-        ap (ones_in (next bits)) (mask_of_passed width bs (zero_passed width bs reads) m.walk.fits),
-        stop,
-      )
+      omega (arith, turn_passed m.walk some, ap (ones_in (next bits)) (mask_of_passed width bs (zero_passed width bs reads) m.walk.fits), stop)
 
   -- it is met: the test goes on
-  pub turn_on : met_now ≡ true → MetBelow bs marks time floor rest count
+  pub turn_on : met_now ≡ true → MetBelow bs marks time floor (bit_and bits (bits - 1)) (visited + 1)
   unfolding each_panel
-  turn_on t =
-      rw (turn.left, turn.counted)
-      (record { walk = walk_on m.walk turn.some; all_met = rw (add-one, all_before, turn_met) t })
+  turn_on t = record { walk = walk_on m.walk some; all_met = rw (add-one, all_before, turn_met) t }

@@ -12,7 +12,9 @@ ghost use Rattle.visits.specs.Visiting.{visits};
 ghost use Rattle.slots.specs.Slots.{Slots, Listed, held};
 ghost use Rattle.choosing.specs.Choice.{asking, first_in, goes_before, considered};
 
-use slots::{Entries, Places, Readable, has_lapsed};
+use frame::{ENTRIES_AT, WIDTH};
+use numbers::number_at;
+use slots::{Places, Readable, has_lapsed};
 
 // The answer of the test for ready, and how many entries of the message were visited, whichever it is.
 #[derive(Clone, Copy)]
@@ -37,31 +39,34 @@ fn is_met(entry: u64, mark: u64, time: u64, floor: u64) -> bool
     entry <= mark || has_lapsed(entry, time, floor)
 }
 
-// Whether a message of that mask is ready: up to the first entry that is not met. (The mask is read
-// before: with it, this would be too long for the compiler to put it into its callers. Marks, time and
-// floor are no struct of their own: they come from a state here and from a view there, and each caller
-// would have to make it.)
+// Whether a message of that mask is ready: from set bit to set bit, lowest first, up to the first entry
+// that is not met. (By hand: an iterator over the entries takes an instruction more for each. The mask is
+// read before: with it, this would be too long for the compiler to put it into its callers. Marks, time
+// and floor are no struct of their own: they come from a state here and from a view there, and each
+// caller would have to make it.)
+#[tactic(auto, using(slots::proofs::Walk::turn_lt, slots::proofs::Walk::turn_room))]
 pub fn ready(message: Readable, mask: u64, marks: &[u64; 64], time: u64, floor: u64) -> Tested
     requires { mask ≡ mask_in width message.frame.now }
     ensures ready_value { result.ready ≡ is_ready (asking marks.now time floor) (message_in width message.entry.frame.now) }
     ensures visited_value { result.visited ≡ visits (asking marks.now time floor) (message_in width message.entry.frame.now) }
 {
-    let mut entries = Entries {
-        message,
-        bits: mask,
-        passed: 0,
-    };
-    while let Some((panel, entry)) = entries.next() {
+    let mut bits = mask;
+    let mut visited = 0;
+    while bits != 0 {
+        let panel = u64::trailing_zeros(bits) as usize;
+        let entry = number_at(message.frame, ENTRIES_AT + WIDTH * visited, WIDTH);
+        visited += 1;
         if !is_met(entry, marks[panel], time, floor) {
             return Tested {
                 ready: false,
-                visited: entries.passed,
+                visited,
             };
         }
+        bits &= bits - 1;
     }
     Tested {
         ready: true,
-        visited: entries.passed,
+        visited,
     }
 }
 

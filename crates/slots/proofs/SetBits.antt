@@ -9,7 +9,6 @@ use lib.Pow.{shl-shr, shr-shr, shr_lt, pow_mono, split}
 use lib.Count.{ones_in, count_trailing_zeros, under}
 use lib.Bits.{bit_and, and_step, and_self, shifted_half, shifted_even}
 use Rattle.frame.proofs.Panels.{div-half}
-pub use Rattle.slots.specs.Entries.{from, next}
 
 -- ---- the lowest set bit
 
@@ -38,6 +37,10 @@ trailing_shifted : (k n bits : ℕ) → count_trailing_zeros (n + k) (bits * 2 ^
 unfolding count_trailing_zeros
 trailing_shifted k zero bits = rw (mul-one, zero-add k, zero-add)
 trailing_shifted k (suc n) bits = rw (suc-add n k, suc-add n (count_trailing_zeros k bits), shifted_even bits n, shifted_half bits n) (ap suc (trailing_shifted k n bits))
+
+-- the bits from a place on, where they stand
+abbrev pub from : ℕ → ℕ → ℕ
+from place bits = bits / 2 ^ place * 2 ^ place
 
 from-half : (place bits : ℕ) → from place (bits / 2) * 2 ≡ from (suc place) bits
 from-half place bits =
@@ -70,6 +73,10 @@ ones_in_add zero more mask = rw (div-one, zero-add more, zero-add)
 ones_in_add (suc n) more mask = rw suc-add (omega (arith, ones_in_add n more (mask / 2), ap (ones_in more) (div-half mask n)))
 
 -- ---- the bits of a mask from panel on, of which some are set
+
+-- the next panel whose bit is set
+abbrev pub next : ℕ → ℕ
+next bits = count_trailing_zeros 64 bits
 
 pub record More (mask panel bits : ℕ) : Type 0 where
   pub few : panel ≤ 64

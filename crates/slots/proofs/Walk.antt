@@ -19,8 +19,7 @@ use Rattle.frame.proofs.Passed.{zero_passed}
 use Rattle.frame.proofs.Panels.{div-half, get_or-by_panel, ones_in_lt}
 use Rattle.rules.specs.Sizes.{width}
 use Rattle.slots.specs.Slots.{Reads}
-pub use Rattle.slots.specs.Entries.{Walk}
-use Rattle.slots.proofs.SetBits.{next, More, step, next-step, next_unset, next-set, next-lt, next_rest, ones_in_add, ones_in_next, ones_in_after}
+use Rattle.slots.proofs.SetBits.{from, next, More, step, next-step, next_unset, next-set, next-lt, next_rest, ones_in_add, ones_in_next, ones_in_after}
 
 -- ---- the entry of a panel
 
@@ -58,6 +57,14 @@ bit_unset (suc n) bits zero none lt = rw div-one (omega arith)
 bit_unset (suc n) bits (suc k) none lt = rw (← div-half bits k) (bit_unset n (bits / 2) k (omega arith) (omega arith))
 
 -- ---- the walk
+
+-- The bits are those of the panels from one on, and the entries of the panels below it were passed.
+pub record Walk (bs : List ℕ) (bits passed : ℕ) : Type 0 where
+  pub panel : ℕ
+  pub few : panel ≤ 64
+  pub fits : mask_in width bs < 2 ^ 64
+  pub rest : bits ≡ from panel (mask_in width bs)
+  pub seen : passed ≡ ones_in panel (mask_in width bs)
 
 pub ones_in_none : (mask : ℕ) → 0 ≡ ones_in 0 mask
 unfolding ones_in

@@ -1,4 +1,3 @@
 -- The waiting list in slots, and the slots of messages alive.
 pub mod Slots
-pub mod Entries
 pub mod Alive

@@ -3,7 +3,6 @@
 // hold readable frames; the calls of a panel refuse any other record.
 #![tactic(auto)]
 
-mod entries;
 mod readable;
 
 ghost use Rattle.std.specs.Prelude.{◌≡◌, ◌<◌};
@@ -11,7 +10,6 @@ ghost use Rattle.rules.specs.Panel.{has_lapsed};
 ghost use Rattle.slots.specs.Slots.{Slots, Fits, Kept, first_slots, frame_at};
 ghost use Rattle.slots.specs.Alive.{Alive};
 
-pub use entries::Entries;
 use frame::BUFFER;
 use numbers::number_at;
 pub use readable::Readable;

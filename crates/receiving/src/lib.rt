@@ -27,7 +27,7 @@ use lent::{State, View, Waiting};
 use parts::{Accepted, settle_slots};
 use slot_moves::put_frame;
 use slots::{Places, Readable};
-use widening::{first, widen};
+use widening::widen;
 
 // Takes a message: a ready one is handed without entering the list, any other goes to its end.
 fn take(state: &mut State, list: &mut Waiting, log: &mut Log, message: Readable)
@@ -90,7 +90,7 @@ pub fn receive_in_place(
     if is_narrow(frame) {
         let mut wide = [0u8; BUFFER];
         let length = widen(frame, &mut wide);
-        return receive_wide(state, list, first(&wide, length), output);
+        return receive_wide(state, list, &wide[..length], output);
     }
     receive_wide(state, list, frame, output)
 }

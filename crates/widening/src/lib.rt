@@ -3,7 +3,7 @@
 // the longest frame; a receive and a trace have both.
 #![tactic(auto)]
 
-ghost use Rattle.std.specs.Prelude.{◌≡◌, ◌+◌, ◌*◌, ◌≤◌, length, take};
+ghost use Rattle.std.specs.Prelude.{◌≡◌, ◌+◌, ◌*◌, ◌≤◌, length};
 ghost use Rattle.numbers.specs.Numbers.{big_endians, numbers_at};
 ghost use Rattle.numbers.specs.Buffer.{over};
 ghost use Rattle.frame.specs.Frame.{narrow, wide, longest};
@@ -50,12 +50,4 @@ pub fn widen(frame: &[u8], buffer: &mut [u8]) -> usize
     let start = NARROW_ENTRIES_AT + NARROW * count + 1;
     put_payload(buffer, at, &frame[start..]);
     at + 1 + (frame.len() - start)
-}
-
-// The first bytes, so many of them.
-pub fn first(bytes: &[u8], count: usize) -> &[u8]
-    requires { count ≤ length bytes.now }
-    ensures { result.now ≡ take count bytes.now }
-{
-    &bytes[0..count]
 }

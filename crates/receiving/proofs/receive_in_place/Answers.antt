@@ -3,6 +3,7 @@ use Rattle.std.proofs.Common.{List, ℕ, sym, ap, ◌∙◌, arith, rules}
 use mathlib.Core.Path.{subst⁻¹}
 use borrow.Author.Tests.{eqb-true}
 use lib.ListN.{replicate}
+use lib.Seq.{length-take-le}
 use Rattle.numbers.specs.Numbers.{Bytes}
 use Rattle.frame.specs.Frame.{narrow, wide, longest}
 use Rattle.frame.specs.Reading.{refusal}
@@ -19,12 +20,19 @@ pub widen-length-requires : goal.widen-length-requires
 widen-length-requires c =
     (eqb-true (refusal narrow c.args.frame.now) 0 (sym c.is_narrow.ensures ∙ c.if-is_narrow.true), search rules)
 
-pub first-requires : goal.first-requires
-first-requires c =
+pub slice_bounds-wide-end : goal.slice_bounds-wide-end
+slice_bounds-wide-end c =
     let bytes = c.args.frame.now in
     let are : Bytes bytes = λ i. omega (arith, c.type_inv.frame i) in
     let reads = eqb-true (refusal narrow bytes) 0 (sym c.is_narrow.ensures ∙ c.if-is_narrow.true) in
     omega (arith, c.widen-length.ensures.0, wide_fits bytes are reads, c.widen-length.auto.buffer)
+
+pub slice_bounds-receive_wide-end : goal.slice_bounds-receive_wide-end
+slice_bounds-receive_wide-end c =
+    let bytes = c.args.frame.now in
+    let are : Bytes bytes = λ i. omega (arith, c.type_inv.frame i) in
+    let reads = eqb-true (refusal narrow bytes) 0 (sym c.is_narrow.ensures ∙ c.if-is_narrow.true) in
+    omega (arith, length-take-le c.widen-length.result c.widen-length.new.buffer (omega (arith, c.widen-length.ensures.0, wide_fits bytes are reads, c.widen-length.auto.buffer)))
 
 pub receive_wide-requires : goal.receive_wide-requires
 receive_wide-requires c =
@@ -32,7 +40,7 @@ receive_wide-requires c =
     let are : Bytes bytes = λ i. omega (arith, c.type_inv.frame i) in
     let reads = eqb-true (refusal narrow bytes) 0 (sym c.is_narrow.ensures ∙ c.if-is_narrow.true) in
     let put = c.widen-length.ensures in
-    let kept = c.first.ensures ∙ widened_part bytes are reads (replicate (longest wide) 0) _ _ put.0 put.1 in
+    let kept = widened_part bytes are reads (replicate (longest wide) 0) _ _ put.0 put.1 in
     subst⁻¹ NotNarrow kept (λ _. picks_wide bytes are reads)
 
 pub returns-then-is_narrow-clause-promised : goal.returns-then-is_narrow-clause-promised
@@ -43,7 +51,7 @@ returns-then-is_narrow-clause-promised c =
     let reads = eqb-true (refusal narrow bytes) 0 (sym c.is_narrow.ensures ∙ c.if-is_narrow.true) in
     let put = c.widen-length.ensures in
     -- what is received is the frame of version 2
-    let kept = c.first.ensures ∙ widened_part bytes are reads (replicate (longest wide) 0) _ _ put.0 put.1 in
+    let kept = widened_part bytes are reads (replicate (longest wide) 0) _ _ put.0 put.1 in
     let given = record_of (parts_of a.state.now a.list.now) in
     let output = a.output.now in (
       c.receive_wide.ensures.promised.0

@@ -3,9 +3,9 @@ use mathlib.Core.Path.{◌≡◌, refl, sym, ap, ◌∙◌}
 use mathlib.Core.List.{List, [], ◌∷◌, ◌++◌, append_assoc, append-nil}
 use Rattle.std.specs.Int.{w64, byte_at, bytes_high_first, to_be_bytes}
 use Prim.Native.Nat.{ℕ, zero, suc, ◌+◌, ◌-◌, ◌*◌, ◌/◌, ◌%◌, ◌^◌, ◌≤◌, ◌<◌}
-use native.Mathlib.Nat.{add-mul, mul_assoc, mul-zero, mul-suc, pow-suc, mul_comm, zero-add, suc-add, mod-eq_of_lt, mod-lt, div-add-mod', one-le-pow, zero-lt-suc}
+use native.Mathlib.Nat.{add-mul, mul_assoc, mul-zero, mul-suc, pow-suc, pow-le-pow_right, mul_comm, zero-add, suc-add, mod-eq_of_lt, mod-lt, div-add-mod', one-le-pow, zero-lt-suc}
 use native.Mathlib.Omega.{arith}
-use lib.ListN.{length, take, drop, replicate, length-append, length-drop}
+use lib.ListN.{length, take, drop, length-append, length-drop}
 use lib.Arith.{digits_lt, digits_div, digits_mod, lt-one, mod-mul}
 use lib.Pow.{pow-add}
 use lib.Seq.{take_all}
@@ -13,6 +13,14 @@ use Rattle.numbers.specs.Numbers.{Bytes, big_endian, big_endians, number}
 
 pub pow_pos : (width : ℕ) → 0 < 256 ^ width
 pow_pos width = one-le-pow width 256 (zero-lt-suc 255)
+
+-- a width of at most 8 bytes fits 64 bits
+pub pow-le : (width : ℕ) → width ≤ 8 → 256 ^ width ≤ 2 ^ 64
+pow-le width h = pow-le-pow_right (zero-lt-suc 255) h
+
+-- a number of so many bytes, and one of some bytes more behind it
+pub pow-lt-add : (width more n m : ℕ) → n < 256 ^ width → m < 256 ^ more → n * 256 ^ more + m < 256 ^ (width + more)
+pow-lt-add width more n m h hm = rw (pow-add 256 width more) (digits_lt h hm)
 
 pub length-big_endian : (width n : ℕ) → length (big_endian width n) ≡ width
 unfolding big_endian
@@ -82,15 +90,6 @@ last_bytes width n le fits =
     ∙ drop_bytes (8 - width) width n
     ∙ lowest_bytes width n
     ∙ ap (big_endian width) (mod-eq_of_lt fits)
-
-number_zeros : (more : ℕ) → number (replicate more 0) ≡ 0
-unfolding number
-number_zeros zero = refl
-number_zeros (suc more) = omega (arith, number_zeros more)
-
--- and zeros before them change nothing
-pub number_behind_zeros : (more : ℕ) (bs : List ℕ) → number (replicate more 0 ++ bs) ≡ number bs
-number_behind_zeros more bs = number_append (replicate more 0) bs ∙ rw number_zeros (omega arith)
 
 -- ---- numbers one after another
 

@@ -5,8 +5,7 @@ use Prim.Native.Nat.{ℕ, zero, suc, ◌+◌, ◌*◌, ◌^◌, ◌≤◌, ◌<�
 use native.Mathlib.Nat.{add_assoc, add_comm, add-zero, zero-add, mul-zero, mul-suc}
 use native.Mathlib.Omega.{arith}
 use lib.ListN.{length, get_or, take, drop, length-drop}
-use Rattle.std.specs.Int.{w64, from_be_bytes}
-use lib.Seq.{length-take-le, take_all, take_at, drop_at, drop-drop, take-add, drop-cons}
+use lib.Seq.{length-take-le, take_at, drop_at, drop-drop, take-add, drop-cons}
 use Rattle.numbers.specs.Numbers.{Bytes, big_endian, big_endians, number, number_at, numbers_at}
 use Rattle.numbers.proofs.Bytes.{Bytes-drop, Bytes-take}
 use Rattle.numbers.proofs.BigEndian.{length-big_endian, number-big_endian, big_endian-number, number_lt, number_append}
@@ -66,28 +65,6 @@ number_at_one bs at h = rw (drop-cons bs at 0 h) (omega arith)
 
 pub number_at_suc : (bs : List ℕ) (at i : ℕ) → at + i < length bs → number_at bs at (i + 1) ≡ number_at bs at i * 256 + get_or bs (at + i) 0
 number_at_suc bs at i h = number_at_add bs at i 1 (omega arith) ∙ ap (λ (b : ℕ). number_at bs at i * 256 + b) (number_at_one bs (at + i) h)
-
--- all bytes there are
-number_at_whole : (bs : List ℕ) (width : ℕ) → length bs ≡ width → number_at bs 0 width ≡ number bs
-unfolding number_at
-number_at_whole bs width size = ap number (take_all width bs (omega arith))
-
--- eight bytes as a number of 64 bits
-pub number_eight : (bs : List ℕ) → length bs ≡ 8 → from_be_bytes w64 bs ≡ number bs
-number_eight bs size =
-    omega (
-      arith,
-      number_at_whole bs 8 size,
-      number_at_zero bs 0,
-      number_at_suc bs 0 0 (omega arith),
-      number_at_suc bs 0 1 (omega arith),
-      number_at_suc bs 0 2 (omega arith),
-      number_at_suc bs 0 3 (omega arith),
-      number_at_suc bs 0 4 (omega arith),
-      number_at_suc bs 0 5 (omega arith),
-      number_at_suc bs 0 6 (omega arith),
-      number_at_suc bs 0 7 (omega arith),
-    )
 
 -- ---- numbers one after another
 

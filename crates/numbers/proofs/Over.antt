@@ -1,15 +1,12 @@
 -- Laws of `over`: bytes put into a buffer, one part behind another. Assumes nothing.
 use mathlib.Core.Path.{◌≡◌, refl, sym, ap, ap₂, ◌∙◌}
 use mathlib.Core.List.{List, [], ◌++◌, append_assoc, append-nil}
-use Prim.Native.Nat.{ℕ, ◌+◌, ◌-◌, ◌≤◌}
+use Prim.Native.Nat.{ℕ, ◌+◌, ◌≤◌}
 use native.Mathlib.Nat.{add-zero}
 use native.Mathlib.Omega.{arith}
-use lib.ListN.{length, take, drop, replicate, length-append, length-replicate, length-take, length-drop, take-append-drop}
+use lib.ListN.{length, take, drop, length-append, length-take, length-drop, take-append-drop}
 use lib.Seq.{paste, take_at, drop_at, drop-drop, take-length, length-take-le, drop-append-add}
-use Rattle.std.proofs.lemmas.List.{drop_all, take-replicate}
-use Rattle.numbers.specs.Numbers.{number}
 use Rattle.numbers.specs.Buffer.{over}
-use Rattle.numbers.proofs.BigEndian.{number_behind_zeros}
 
 -- nothing put
 pub over-nil : (buffer : List ℕ) (at : ℕ) → over buffer at [] ≡ buffer
@@ -69,12 +66,3 @@ over_again buffer at xs rest ys e h =
 pub take-over : (buffer bs : List ℕ) → take (length bs) (over buffer 0 bs) ≡ bs
 unfolding over
 take-over buffer bs = take_at bs (drop (0 + length bs) buffer) (length bs) refl
-
--- bytes behind zeros are the same number
-pub number_over : (size width : ℕ) (bs : List ℕ) → length bs ≡ width → width ≤ size → number (over (replicate size 0) (size - width) bs) ≡ number bs
-unfolding over
-number_over size width bs e le =
-    let zeros : List ℕ = replicate size 0 in
-    let room : length (replicate {A = ℕ} size 0) ≤ size - width + length bs = omega (arith, length-replicate {A = ℕ} size 0) in
-    rw (drop_all (size - width + length bs) zeros room, append-nil, take-replicate {X = ℕ} (size - width) size 0 (omega arith))
-    (number_behind_zeros (size - width) bs)

@@ -7,15 +7,30 @@ ghost use Rattle.std.specs.Prelude.{◌≡◌, ◌+◌, ◌^◌, ◌≤◌, ◌<
 ghost use Rattle.numbers.specs.Numbers.{big_endian, number_at};
 ghost use Rattle.numbers.specs.Buffer.{over};
 
-// The number in the width bytes from place at on, which are the last of eight. (Where the width is a
-// constant after inlining, the compiler makes one load of it.)
+// The number in the width bytes from place at on, byte by byte.
+fn bytewise(bytes: &[u8], at: usize, width: usize) -> u64
+    requires { (width ≤ 8) × (at + width ≤ length bytes.now) }
+    ensures { (result ≡ number_at bytes.now at width) × (result < 256 ^ width) }
+{
+    let mut number = 0;
+    for i in 0..width {
+        number = number * 256 + u64::from(bytes[at + i]);
+    }
+    number
+}
+
+// The number in the width bytes from place at on. Above four bytes it is read in two parts, of which
+// the compiler makes one load, where byte by byte it makes eight. (By from_be_bytes, behind zeros, it
+// takes eight instructions more where the width is no eight.)
 pub fn number_at(bytes: &[u8], at: usize, width: usize) -> u64
     requires { (width ≤ 8) × (at + width ≤ length bytes.now) }
     ensures { (result ≡ number_at bytes.now at width) × (result < 256 ^ width) }
 {
-    let mut eight = [0; 8];
-    put_part(&mut eight, 8 - width, &bytes[at..at + width]);
-    u64::from_be_bytes(eight)
+    if width < 5 {
+        return bytewise(bytes, at, width);
+    }
+    let high = width - 4;
+    bytewise(bytes, at, high) * 4294967296 + bytewise(bytes, at + high, 4)
 }
 
 // Puts the width bytes of the number, the last of its eight, into the buffer from place at on.

@@ -1,31 +1,39 @@
--- `numbers::number_at` meets its contract: the bytes behind zeros are the same number. Assumes nothing.
-use mathlib.Core.Path.{◌≡◌, ap, ◌∙◌}
-use mathlib.Core.List.{List}
-use Prim.Native.Nat.{ℕ, ◌+◌, ◌-◌, ◌≤◌}
+-- `numbers::number_at` meets its contract: the number is that of its first bytes with that of its last four behind it. Assumes nothing.
+use mathlib.Core.Path.{◌≡◌, sym, ap, ap₂, ◌∙◌, subst}
+use Prim.Native.Nat.{ℕ, ◌+◌, ◌-◌, ◌*◌, ◌^◌, ◌<◌}
 use native.Mathlib.Omega.{arith}
-use lib.ListN.{length, take, drop, replicate, length-drop}
-use lib.Seq.{length-take-le}
-use Rattle.std.specs.Int.{w64, from_be_bytes}
-use Rattle.numbers.specs.Numbers.{number, number_at}
-use Rattle.numbers.specs.Buffer.{over}
-use Rattle.numbers.proofs.NumberAt.{number_eight, number_at_lt}
-use Rattle.numbers.proofs.Over.{length_over, number_over}
+use Rattle.numbers.specs.Numbers.{number_at}
+use Rattle.numbers.proofs.BigEndian.{pow-le, pow-lt-add}
+use Rattle.numbers.proofs.NumberAt.{number_at_add}
 use Rattle.numbers.proofs.number_at.Goals as goal
 
-behind_zeros : (eight bs : List ℕ) (at width : ℕ) → width ≤ 8 → at + width ≤ length bs
-    → eight ≡ over (replicate 8 0) (8 - width) (take (at + width - at) (drop at bs)) → from_be_bytes w64 eight ≡ number_at bs at width
-unfolding number_at
-behind_zeros eight bs at width le room put =
-    let all : at + width - at ≡ width = omega arith in
-    let part = take width (drop at bs) in
-    let size : length (take width (drop at bs)) ≡ width = length-take-le width (drop at bs) (rw length-drop (omega arith)) in
-    let is : eight ≡ over (replicate 8 0) (8 - width) (take width (drop at bs)) = rw all at put in
-    number_eight eight (ap length is ∙ length_over (replicate 8 0) (8 - width) part (omega arith))
-    ∙ ap number is
-    ∙ number_over 8 width part size le
+-- the number is below 256 ^ width, which fits 64 bits
+below : (c : goal.After-bytewise-2) (low : ℕ) → low < 256 ^ 4 → c.bytewise-2.result * 256 ^ 4 + low < 256 ^ c.args.width
+below c low h =
+    let width = c.args.width in
+    let e : c.args.width - 4 + 4 ≡ c.args.width = omega arith in
+    subst (λ (n : ℕ). c.bytewise-2.result * 256 ^ 4 + low < 256 ^ n) e (pow-lt-add (width - 4) 4 c.bytewise-2.result low c.bytewise-2.ensures.1 h)
+
+pub overflow_mul-result : goal.overflow_mul-result
+overflow_mul-result c = omega (arith, below c 0 (omega arith), pow-le c.args.width (omega arith))
+
+-- the number is below 256 ^ width, which fits 64 bits
+below_2 : (c : goal.After-bytewise-3) (low : ℕ) → low < 256 ^ 4 → c.bytewise-2.result * 256 ^ 4 + low < 256 ^ c.args.width
+below_2 c low h =
+    let width = c.args.width in
+    let e : c.args.width - 4 + 4 ≡ c.args.width = omega arith in
+    subst (λ (n : ℕ). c.bytewise-2.result * 256 ^ 4 + low < 256 ^ n) e (pow-lt-add (width - 4) 4 c.bytewise-2.result low c.bytewise-2.ensures.1 h)
+
+pub overflow_add-result : goal.overflow_add-result
+overflow_add-result c =
+    omega (arith, below_2 c c.bytewise-3.result c.bytewise-3.ensures.1, pow-le c.args.width (omega arith))
 
 pub returns : goal.returns
 returns c =
     let a = c.args in
-    let read = c.from_be_bytes.ensures ∙ behind_zeros _ a.bytes.now a.at a.width c.requires.0 c.requires.1 c.put_part.ensures in
-    (read, omega (arith, read, number_at_lt a.bytes.now a.at a.width (λ i. omega (arith, c.type_inv.bytes i)) c.requires.1))
+    let e : a.width - 4 + 4 ≡ a.width = omega arith in (
+      ap₂ (λ (high low : ℕ). high * 256 ^ 4 + low) c.bytewise-2.ensures.0 c.bytewise-3.ensures.0
+          ∙ sym (number_at_add a.bytes.now a.at (a.width - 4) 4 (omega arith))
+          ∙ ap (number_at a.bytes.now a.at) e,
+      below_2 c c.bytewise-3.result c.bytewise-3.ensures.1,
+    )

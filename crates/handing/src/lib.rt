@@ -19,7 +19,8 @@ use numbers::{put_bytes, put_number};
 use passing::pass_entries;
 use slots::Readable;
 
-// The log records of a call: so many of them stand at the start of the output.
+// The log records of a call: so many of them stand at the start of the output. (The output is memory that
+// C lends, so the count stands beside it.)
 #[derive(Drop)]
 pub struct Log<'a> {
     pub output: &'a mut [u8],

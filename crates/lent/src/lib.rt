@@ -1,6 +1,7 @@
 // A panel's record as it is lent to a call: each part by a reference of its own, since C lends them so; own
 // number and time as values. What handing works on stands in one struct, and the waiting list, whose frames
-// are handed, in another. An internal crate.
+// are handed, in another. An internal crate. (Each call makes the two itself: a function that gave both
+// would have to promise, of six references, which part each is.)
 #![tactic(auto)]
 
 ghost use Rattle.std.specs.Prelude.{◌≡◌};

@@ -64,7 +64,7 @@ pub fn panel_log_fields(log: &[u8], index: usize) -> LogFields
 }
 
 // The payload of the log record of that index, as the part of the log that it occupies; where there
-// is none, the empty part at the log's start.
+// is none, the empty part at the log's start, as the specification has it.
 pub fn log_payload(log: &[u8], index: usize) -> &[u8]
     ensures { PayloadPart log.entry index result }
 {

@@ -28,7 +28,8 @@ use std::num::wrapping_sub_u64;
 // The bytes that an output needs: room for 33 log records.
 pub const OUTPUT: usize = 33 * LOG_RECORD;
 
-// Whether each number is at most the limit.
+// Whether each number is at most the limit. (Not whether each is below the limit and one, as writing asks:
+// that sum could pass 64 bits.)
 fn each_at_most(numbers: &[u64; 64], limit: u64) -> bool
     ensures { result ≡ each_below (limit + 1) numbers.now }
 {

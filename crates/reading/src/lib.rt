@@ -19,7 +19,7 @@ use frame_check::frame_check;
 use numbers::number_at;
 
 // The payload as the part of the caller's bytes that it occupies; for bytes turned down the empty
-// part at their start.
+// part at their start, as the specification has it.
 pub fn payload(frame: &[u8]) -> &[u8]
     ensures { PayloadPart frame.entry result }
 {

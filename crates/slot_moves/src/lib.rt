@@ -34,7 +34,8 @@ fn move_bytes(slots: &mut [u8; SLOTS], to: usize, from: usize, count: usize)
     }
 }
 
-// The frames in the slots listed move up to the first slots.
+// The frames in the slots listed move up to the first slots. (The count stands beside the places, as
+// must-fail edits of `parts` give another than they have.)
 pub fn gather(slots: &mut [u8; SLOTS], places: &[u8; 32], count: usize)
     requires { Slots slots.old × Listed slots.old count places.now }
     ensures { Gathered slots.old places.now count slots.new }

@@ -21,7 +21,8 @@ pub const SLOT: usize = 2 + BUFFER;
 // The bytes of all slots.
 pub const SLOTS: usize = 32 * SLOT;
 
-// Slots, so many of them, in order.
+// Slots, so many of them, in order. (No ArrayVec of the kit: it closes up by memmove, which the archive for
+// C must not need.)
 #[derive(Clone, Copy)]
 pub struct Places {
     pub count: usize,

@@ -1,5 +1,6 @@
 // Writing a frame of version 2 into a lent buffer. `write` accepts any input. An internal crate: a send
-// writes the frames. Preconditions of what puts a part of a frame: room in the buffer.
+// writes the frames. Preconditions of what puts a part of a frame: room in the buffer. (A buffer and a
+// place, and not the part behind it: the promise is about the whole, and says what stays.)
 #![tactic(auto)]
 
 ghost use Rattle.std.specs.Prelude.{◌≡◌, ◌++◌, ◌+◌, ◌*◌, ◌≤◌, ◌<◌, length};

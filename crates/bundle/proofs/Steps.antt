@@ -1,5 +1,5 @@
--- The steps of a bundle, one law for each case; and where a frame found lies.
-use mathlib.Core.Path.{◌≡◌, refl, sym}
+-- The steps of a bundle, one law for each case; where a frame found lies; and that the part which the step as C has it names lies in the bundle.
+use mathlib.Core.Path.{◌≡◌, refl, sym, subst}
 use mathlib.Core.Bool.{Bool, true, false, cond}
 use mathlib.Core.List.{List}
 use Prim.Native.Nat.{ℕ, ◌+◌, ◌≤◌, ◌<◌}
@@ -10,7 +10,9 @@ use borrow.Author.Tests.{ltb-false, lt-ltb, le-ltb, eq-eqb, ne_eqb}
 use Rattle.numbers.specs.Numbers.{number_at}
 use Rattle.bundle.specs.declared.Step.{Step}
 use Rattle.bundle.specs.declared.Step.TheVariants.{Frame, End, Broken}
-use Rattle.bundle.specs.Bundle.{step_at}
+use Rattle.bundle.specs.declared.BundleStep.{BundleStep}
+use Rattle.bundle.specs.declared.Reader.{Reader}
+use Rattle.bundle.specs.Bundle.{step_at, answer_of}
 
 module _ (bundle : List ℕ) (place : ℕ) where
   pub step_past : length bundle < place → step_at bundle place ≡ Broken
@@ -82,3 +84,19 @@ pub frame_within : (bundle : List ℕ) (place start size next : ℕ) → Frame s
 frame_within bundle place start size next e =
     let found = step_found bundle place start size next (sym e) in
     omega (arith, found.ends, found.within)
+
+-- ---- the step as C has it: the part that it names lies within the bundle
+
+answer_within : (bundle : List ℕ) (place : ℕ) (step : Step) → step_at bundle place ≡ step
+    → (answer_of step place).start + (answer_of step place).length ≤ length bundle
+answer_within bundle place (Frame start size next) e =
+    let found = step_found bundle place start size next e in
+    omega (arith, found.ends, found.within)
+answer_within bundle place End e = omega arith
+answer_within bundle place Broken e = omega arith
+
+pub part_within : (reader : Reader) (answer : BundleStep) → answer ≡ answer_of (step_at reader.bundle.now reader.place) reader.place
+    → answer.start + answer.length ≤ length reader.bundle.now
+part_within reader answer is =
+    let fits : BundleStep → Type 0 = λ (a : BundleStep). a.start + a.length ≤ length reader.bundle.now in
+    subst fits (sym is) (answer_within reader.bundle.now reader.place _ refl)

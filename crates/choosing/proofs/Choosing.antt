@@ -2,19 +2,34 @@
 use Prim.Native.Nat.{ℕ, suc, ◌≤◌, ◌<◌}
 use native.Mathlib.Omega.{arith}
 use mathlib.Core.Path.{◌≡◌, refl, sym, ap, ◌∙◌}
-use mathlib.Core.Bool.{Bool, true, false, cond, ◌&&◌}
+use mathlib.Core.Bool.{Bool, true, false, cond, ◌&&◌, ◌||◌}
 use mathlib.Core.Option.{Option as Chosen, none, some}
 use Rattle.std.specs.Prelude.{Option, Some, None}
 use mathlib.Core.List.{List, [], ◌∷◌, ◌++◌}
 use lib.ListN.{length, get_or, take}
 use lib.Seq.{take-suc, length-take-le, take_all}
+use lib.Dec.{ltb}
+use borrow.Author.Tests.{le-ltb, eq-eqb, ne_eqb}
 use Rattle.frame.specs.Message.{Message, message_of}
 use Rattle.rules.specs.Panel.{Panel, ready, met, lapsed}
 use Rattle.rules.specs.Settling.{sooner, chosen, choice}
 use Rattle.rules.proofs.Choice.{choice-some, get_or_default}
 use Rattle.choosing.proofs.ChoiceUpwards.{get_or_before, get_or_last, chosen_last, choice-snoc}
-use Rattle.choosing.specs.Choice.{asking, first_in, goes_first, considered}
+use Rattle.choosing.specs.Choice.{asking, first_in, goes_before, goes_first, considered}
 use Rattle.choosing.specs.declared.First.{First}
+
+-- ---- whether a message goes before the one found
+
+or_false : (b : Bool) → (b || false) ≡ b
+or_false true = refl
+or_false false = refl
+
+module _ (deadline source : ℕ) (first : First) where
+  pub goes_before_deadline : (deadline ≡ first.deadline → ⊥) → goes_before deadline source first ≡ ltb deadline first.deadline
+  goes_before_deadline h = rw (ne_eqb deadline first.deadline h) (or_false (ltb deadline first.deadline))
+
+  pub goes_before_source : deadline ≡ first.deadline → goes_before deadline source first ≡ ltb source first.source
+  goes_before_source h = rw (eq-eqb deadline first.deadline h, le-ltb deadline first.deadline (omega arith))
 
 -- ---- one message more, behind those looked at
 

@@ -26,6 +26,13 @@ length-readable bs r =
     let p = zero_passed width bs r in
     length-log_record (message_in width bs) (omega (arith, p.payload, length_payload width bs p))
 
+-- what stands behind n entries and the length byte is the payload
+pub part_payload : (bs : List ℕ) (n : ℕ) → n ≡ count_in width bs → take (length bs - (15 + width + width * n)) (drop (15 + width + width * n) bs) ≡ (message_in width bs).payload
+unfolding message_in
+part_payload bs n e =
+    take_all (length bs - (15 + width + width * n)) (drop (15 + width + width * n) bs) (rw length-drop (omega arith))
+    ∙ ap (λ (count : ℕ). drop (15 + width + width * count) bs) e
+
 -- no mask has more than 64 set bits
 pub entries_few : (mask : ℕ) → mask < 2 ^ 64 → ones mask ≤ 64
 entries_few mask below = ones-le 64 mask below
@@ -40,14 +47,11 @@ module _ (bs : List ℕ) (mask : ℕ) (reads : Reads bs) (is : mask ≡ mask_in 
   passed : Passed width bs
   passed = zero_passed width bs reads
 
-  -- what stands behind the entries and the length byte is the payload
+  -- so it is by the mask, and that lies within the frame
   pub payload_place : (start ≤ length bs)
       × ((take (length bs - start) (drop start bs) ≡ (message_in width bs).payload) × (length (take (length bs - start) (drop start bs)) ≤ 32))
-  unfolding message_in
   payload_place =
-      let all : take (length bs - start) (drop start bs) ≡ (message_in width bs).payload =
-      take_all (length bs - start) (drop start bs) (rw length-drop (omega arith))
-      ∙ ap (λ (count : ℕ). drop (15 + width + width * count) bs) counted in
+      let all = part_payload bs (ones mask) counted in
       (omega (arith, counted, passed.room), (all, rw all (omega (arith, passed.payload, length_payload width bs passed))))
 
 abbrev head : ℕ → ℕ → ℕ → List ℕ

@@ -1,18 +1,24 @@
 -- Where log records stand in a log: the places of one are places of the log, and when it is whole. Assumes nothing.
 use mathlib.Core.Path.{◌≡◌, refl, sym, ap, ◌∙◌}
 use mathlib.Core.Bool.{Bool, true, false}
-use mathlib.Core.List.{List, []}
-use Prim.Native.Nat.{ℕ, ◌+◌, ◌*◌, ◌-◌, ◌≤◌, ◌<◌}
+use mathlib.Core.List.{List, [], ◌∷◌}
+use Prim.Native.Nat.{ℕ, zero, suc, ◌+◌, ◌*◌, ◌-◌, ◌≤◌, ◌<◌}
+use native.Mathlib.Nat.{zero-add, suc-add}
 use native.Mathlib.Omega.{arith}
 use lib.Dec.{leb, eqb}
 use lib.ListN.{length, get_or, take, drop, length-take, length-drop}
-use lib.Seq.{length-take-le}
+use lib.Seq.{length-take-le, take-nil, take-take, drop-drop}
 use borrow.Author.Tests.{leb-true, le-leb, lt-leb, eq-eqb, eqb-true, ne_eqb}
-use Rattle.numbers.specs.Numbers.{number_at}
+use Rattle.numbers.specs.Numbers.{number, number_at}
 use Rattle.numbers.proofs.NumberAt.{number_at_one}
 use Rattle.frame.proofs.Conjunction.{and_both}
 use Rattle.rules.specs.Sizes.{width, log_record_length}
 use Rattle.log_records.specs.LogRecords.{log_record_at, is_whole, fields_in, payload_in, payload_place}
+
+drop-take : (k n : ℕ) (l : List ℕ) → drop k (take (k + n) l) ≡ take n (drop k l)
+drop-take zero n l = ap (λ (i : ℕ). take i l) (zero-add n)
+drop-take (suc k) n [] = ap (λ (i : ℕ). drop (suc k) (take i [])) (suc-add k n) ∙ sym (take-nil n)
+drop-take (suc k) n (x ∷ l) = ap (λ (i : ℕ). drop (suc k) (take i (x ∷ l))) (suc-add k n) ∙ drop-take k n l
 
 -- what makes a log record whole
 whole_parts : (log_record : List ℕ) → is_whole log_record ≡ true → (length log_record ≡ log_record_length) × (number_at log_record (1 + width) 1 ≤ 32)
@@ -67,6 +73,32 @@ module _ (log : List ℕ) (index : ℕ) where
   cut_not_whole cut =
       let short : length (log_record_at log index) ≡ log_record_length → ⊥ = λ e. omega (arith, length_cut e) in
       rw (ne_eqb (length (log_record_at log index)) log_record_length short) refl
+
+  -- what a whole log record says of the log
+  pub record Whole : Type 0 where
+    pub room : index * log_record_length + log_record_length ≤ length log
+    pub few : number_at log (index * log_record_length + (1 + width)) 1 ≤ 32
+
+  -- so many bytes from a place of the log record on are bytes of the log
+  part_at : (at size : ℕ) → at + size ≤ log_record_length
+      → take size (drop at (log_record_at log index)) ≡ take size (drop (index * log_record_length + at) log)
+  unfolding log_record_at
+  part_at at size room =
+      let rest = drop (index * log_record_length) log in
+      let e : at + (log_record_length - at) ≡ log_record_length = omega arith in
+      ap (λ (n : ℕ). take size (drop at (take n rest))) (sym e)
+      ∙ ap (take size) (drop-take at (log_record_length - at) rest)
+      ∙ take-take size (log_record_length - at) (drop at rest) (omega arith)
+      ∙ ap (take size) (drop-drop at (index * log_record_length) log)
+
+  number-at : (at size : ℕ) → at + size ≤ log_record_length → number_at (log_record_at log index) at size ≡ number_at log (index * log_record_length + at) size
+  unfolding number_at
+  number-at at size room = ap number (part_at at size room)
+
+  pub true_whole : is_whole (log_record_at log index) ≡ true → Whole
+  true_whole whole =
+      let parts = whole_parts (log_record_at log index) whole in
+      record { room = length_cut parts.0; few = omega (arith, parts.1, number-at (1 + width) 1 (omega arith)) }
 
   -- as a part of the log's bytes
   pub record_is : take (index * log_record_length + log_record_length - index * log_record_length) (drop (index * log_record_length) log) ≡ log_record_at log index

@@ -1,13 +1,13 @@
 -- Laws of `big_endian` and `number`: they undo each other, for every width. Assumes nothing.
-use mathlib.Core.Path.{◌≡◌, refl, sym, ap, ◌∙◌}
+use mathlib.Core.Path.{◌≡◌, refl, sym, ap, ◌∙◌, subst}
 use mathlib.Core.List.{List, [], ◌∷◌, ◌++◌, append_assoc, append-nil}
 use Rattle.std.specs.Int.{w64, byte_at, bytes_high_first, to_be_bytes}
 use Prim.Native.Nat.{ℕ, zero, suc, ◌+◌, ◌-◌, ◌*◌, ◌/◌, ◌%◌, ◌^◌, ◌≤◌, ◌<◌}
 use native.Mathlib.Nat.{add-mul, mul_assoc, mul-zero, mul-suc, pow-suc, pow-le-pow_right, mul_comm, zero-add, suc-add, mod-eq_of_lt, mod-lt, div-add-mod', one-le-pow, zero-lt-suc}
 use native.Mathlib.Omega.{arith}
-use lib.ListN.{length, take, drop, length-append, length-drop}
+use lib.ListN.{length, get_or, take, drop, length-append, length-drop}
 use lib.Arith.{digits_lt, digits_div, digits_mod, lt-one, mod-mul}
-use lib.Pow.{pow-add}
+use lib.Pow.{pow-add, field, mod-mod-pow, shr_mod}
 use lib.Seq.{take_all}
 use Rattle.numbers.specs.Numbers.{Bytes, big_endian, big_endians, number}
 
@@ -47,7 +47,7 @@ big_endian-number [] b = refl
 big_endian-number (x ∷ bs) b =
     let r = number_lt bs (λ i. b (suc i)) in rw (digits_div x r, digits_mod x r, big_endian-number bs (λ i. b (suc i)))
 
--- ---- part by part
+-- ---- part by part, and byte by byte
 
 pub number_append : (xs ys : List ℕ) → number (xs ++ ys) ≡ number xs * 256 ^ length ys + number ys
 unfolding number
@@ -59,6 +59,27 @@ number_append (x ∷ xs) ys =
     ap (λ (n : ℕ). 256 ^ n) (length-append xs ys) ∙ pow-add 256 (length xs) (length ys) in
     rw (long, number_append xs ys)
     (omega (arith, mul_assoc x a b, add-mul (x * a) (number xs) b))
+
+pow_256 : (j : ℕ) → 256 ^ j ≡ 2 ^ (8 * j)
+pow_256 zero = refl
+pow_256 (suc j) =
+    pow-suc 256 j ∙ ap (λ (x : ℕ). x * 256) (pow_256 j) ∙ sym (pow-add 2 (8 * j) 8) ∙ ap (λ (x : ℕ). 2 ^ x) (sym (mul-suc 8 j))
+
+-- the byte at i, with j bytes behind it
+pub get_or-big_endian : (i j width n : ℕ) → i + suc j ≡ width → n < 256 ^ width → get_or (big_endian width n) i 0 ≡ n / 2 ^ (8 * j) % 256
+unfolding big_endian
+get_or-big_endian i j zero n e h = absurd (omega arith)
+get_or-big_endian zero j (suc width) n e h =
+    let q : 8 * suc width ≡ 8 + 8 * j = omega arith in
+    let h' : n < 2 ^ (8 + 8 * j) = subst (λ (x : ℕ). n < x) (pow_256 (suc width) ∙ ap (λ (x : ℕ). 2 ^ x) q) h in
+    let r : width ≡ j = omega arith in
+    ap (λ (x : ℕ). n / x) (pow_256 width ∙ ap (λ (x : ℕ). 2 ^ (8 * x)) r) ∙ sym (shr_mod 8 (8 * j) h')
+get_or-big_endian (suc i) j (suc width) n e h =
+    let q : 256 ^ width ≡ 2 ^ ((8 * i + 8) + 8 * j) = pow_256 width ∙ ap (λ (x : ℕ). 2 ^ x) (omega arith) in
+    get_or-big_endian i j width (n % 256 ^ width) (omega arith) (mod-lt n (pow_pos width))
+    ∙ ap (λ (x : ℕ). n % x / 2 ^ (8 * j) % 256) q
+    ∙ ap (λ (x : ℕ). x % 256) (field n (8 * i + 8) (8 * j))
+    ∙ mod-mod-pow (n / 2 ^ (8 * j)) (8 * i) 8
 
 -- ---- as the numbers of 64 bits have their bytes
 

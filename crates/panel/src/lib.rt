@@ -31,7 +31,8 @@ pub struct Panel {
 }
 
 // What a call by value gives back: the record, and what the call answers. After a refusal it is the very
-// record that was given.
+// record that was given; fresh, which is given none, makes panel 0 then.
+#[repr(C)]
 #[derive(Clone, Copy)]
 pub struct Given {
     pub panel: Panel,
@@ -40,7 +41,7 @@ pub struct Given {
 
 // A fresh panel; for a number above 63 it is panel 0, with the refusal 11.
 pub fn panel_fresh(number: u8) -> Given
-    ensures { ((answer_of result.answer).number ≡ fresh_number number) × (record_of result.panel ≡ fresh_record number) }
+    ensures { (answer_of result.answer ≡ record { count = 0; length = 0; number = fresh_number number }) × (record_of result.panel ≡ fresh_record number) }
 {
     let mut panel = Panel {
         own: 0,

@@ -37,15 +37,19 @@ refused_promised p call number e refuses =
     let same : number ≡ (defined p call).number = e ∙ sym (defined-number p call) in
     ap (refused p (output_of call) (buffer_of call)) same ∙ sym (refusal_unchanged p call (λ z. refuses (same ∙ z)))
 
--- in place the parts are left as they were, by a call that gives up on a check's refusal
-pub refused_in_place : (p : Parts) (call : Call) (answer : Answered Accepted Refusal) (refusal : Refusal)
+-- in place the parts are left as they were
+pub refused_in_place : (p : Parts) (call : Call) (number : ℕ) → number ≡ first_of (checks_of (record_of p) call) → (number ≡ 0 → ⊥)
+    → PromisedInPlace p call (record { count = 0; length = 0; number = number }) p (output_of call) (buffer_of call)
+unfolding refused
+refused_in_place p call number e refuses = (refused_promised (record_of p) call number e refuses, λ _. refl)
+
+-- by a call that gives up on a check's refusal
+pub refusal_in_place : (p : Parts) (call : Call) (answer : Answered Accepted Refusal) (refusal : Refusal)
     → IsErrAnd answer (λ e. e ≡ refusal) → number_of refusal ≡ first_of (checks_of (record_of p) call)
     → PromisedInPlace p call (answer_of answer) p (output_of call) (buffer_of call)
-unfolding refused
-refused_in_place p call answer refusal is e =
+refusal_in_place p call answer refusal is e =
     let (given, is_err, same) = err_from_is_err_and answer is in
-    rw (is_err, same)
-    (refused_promised (record_of p) call (number_of refusal) e (λ none. omega (arith, none, number_of_pos refusal)), λ _. refl)
+    rw (is_err, same) (refused_in_place p call (number_of refusal) e (λ none. omega (arith, none, number_of_pos refusal)))
 
 -- ---- done
 

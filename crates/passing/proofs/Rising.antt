@@ -26,6 +26,30 @@ missed-none time floor mark = go (has_lapsed time floor 0 && ltb mark 0)
     go true = refl
     go false = refl
 
+-- ---- one entry, by the time alone
+
+module _ (time mark entry : ℕ) where
+  -- the mark has reached it
+  pub entry_reached : entry ≤ mark → 0 ≡ missed_entry time 0 mark entry
+  entry_reached le = rw (le-ltb mark entry le) (go (has_lapsed time 0 entry))
+    where
+      go : (late : Bool) → 0 ≡ cond {A = ℕ} (late && false) entry 0
+      go true = refl
+      go false = refl
+
+  -- it has not lapsed
+  pub entry_alive : mark < entry → time ≤ entry → 0 ≡ missed_entry time 0 mark entry
+  entry_alive above due = go (has_lapsed time 0 entry) refl (ltb mark entry)
+    where
+      go : (late : Bool) → has_lapsed time 0 entry ≡ late → (b : Bool) → 0 ≡ cond {A = ℕ} (late && b) entry 0
+      go true e b = absurd (omega (arith, has_lapsed-true time 0 entry e))
+      go false e b = refl
+
+  -- it was missed
+  pub entry_missed : mark < entry → entry < time → entry ≡ missed_entry time 0 mark entry
+  unfolding has_lapsed
+  entry_missed unreached late = rw (lt-ltb mark entry unreached, lt-ltb entry time late)
+
 -- ---- one after another
 
 -- By which floor an entry has lapsed, the first one or one that has risen, makes no difference to the one that is risen.

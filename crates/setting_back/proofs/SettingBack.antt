@@ -13,7 +13,7 @@ use Rattle.lent.specs.Record.{Parts, parts, record_of}
 use Rattle.std.specs.Prelude.{Err}
 use Rattle.frame.specs.declared.refusal.Refusal.TheVariants as refusals
 use Rattle.parts.specs.Record.{PromisedInPlace}
-use Rattle.parts.proofs.Answering.{refused_in_place}
+use Rattle.parts.proofs.Answering.{refusal_in_place}
 use Rattle.setting_back.specs.Answer.{answer_of}
 
 module _ (p : Parts) (reading : ℕ) where
@@ -23,7 +23,7 @@ module _ (p : Parts) (reading : ℕ) where
 
   pub set_back_refused : broken (record_of p) ≡ true → PromisedInPlace p (set_back reading) (answer_of 26) p [] []
   unfolding set_back_checks first_of
-  set_back_refused e = refused_in_place p (set_back reading) (Err refusals.RecordBroken) refusals.RecordBroken refl (rw e)
+  set_back_refused e = refusal_in_place p (set_back reading) (Err refusals.RecordBroken) refusals.RecordBroken refl (rw e)
 
   pub set_back_done : broken (record_of p) ≡ false → (time : ℕ) → time ≡ min p.time reading
       → PromisedInPlace p (set_back reading) (answer_of 0) (with_time_in time) [] []

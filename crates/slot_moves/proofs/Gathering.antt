@@ -36,8 +36,12 @@ module _ (before places : List ℕ) (slot count : ℕ) (slots : List ℕ) (place
   here : frame_at slots place ≡ frame_at before (get_or places slot 0)
   here = moving.others place (omega (arith, place_is, listed.rises slot lt)) ∙ ap (frame_at before) place_is
 
+  -- the frame at the place has not moved
+  pub reads_place : Reads (frame_at slots place)
+  reads_place = rw here (listed.reads slot lt)
+
   short : length_at slots place ≤ buffer_length
-  short = reads_fits slots place (rw here (listed.reads slot lt))
+  short = reads_fits slots place reads_place
 
   -- the length and the frame at the place, which has not moved, lie within the slots
   pub place_within : place * slot_length + 2 + length_at slots place ≤ slots_length

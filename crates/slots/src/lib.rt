@@ -42,7 +42,7 @@ impl Places {
 }
 
 // The frame in a slot that has room for it. The length is read only where it is asked for.
-fn kept_frame(slots: &[u8], slot: usize) -> &[u8]
+pub fn kept_frame(slots: &[u8], slot: usize) -> &[u8]
     requires { Slots slots.now × (slot < 32) × Fits slots.now slot }
     ensures { result.now ≡ frame_at slots.now slot }
 {

@@ -1,10 +1,11 @@
--- Numbers in decimal: how a number's digits end, and that they are those that the library prints.
+-- Numbers in decimal: how a number's digits end, that there are at most 20, and that they are those that the library prints.
 use mathlib.Core.Path.{◌≡◌, refl, sym, ap, ◌∙◌}
-use mathlib.Core.Bool.{Bool, true, false}
+use mathlib.Core.Bool.{Bool, true, false, cond}
 use mathlib.Core.List.{List, [], ◌∷◌, ◌++◌}
 use Prim.Native.Nat.{ℕ, zero, suc, ◌+◌, ◌*◌, ◌/◌, ◌%◌, ◌^◌, ◌≤◌, ◌<◌}
 use native.Mathlib.Omega.{arith}
 use lib.Dec.{ltb}
+use lib.ListN.{length, length-append}
 use borrow.Author.Tests.{lt-ltb, le-ltb, ltb-true, ltb-false}
 use Rattle.std.specs.Fmt as printed
 use Rattle.std.proofs.lemmas.Fmt.{decimal_by_steps}
@@ -49,6 +50,17 @@ module _ (n : ℕ) where
   unfolding limit
   decimal_more large fits =
       decimal_in_more 19 n large ∙ ap (λ (text : List ℕ). text ++ (digit (n % 10) ∷ [])) (sym (decimal_in-suc 18 (n / 10) (omega arith)))
+
+-- at most so many digits
+pub length-decimal_in : (most n : ℕ) → length (decimal_in most n) ≤ most
+unfolding decimal_in
+length-decimal_in zero n = omega arith
+length-decimal_in (suc most) n = go (ltb n 10) (length-decimal_in most (n / 10))
+  where
+    go : (b : Bool) → length (decimal_in most (n / 10)) ≤ most
+        → length (cond b (digit n ∷ []) (decimal_in most (n / 10) ++ (digit (n % 10) ∷ []))) ≤ suc most
+    go true tenth = omega arith
+    go false tenth = rw length-append (omega arith)
 
 -- the digits that the library prints
 pub decimal_printed : (n : ℕ) → n < 2 ^ 64 → printed.decimal n ≡ decimal n

@@ -1,3 +1,4 @@
--- The laws of numbers and bytes as text.
+-- The laws of text and of text put into a buffer.
+pub mod Puts
 pub mod Decimal
 pub mod Hexadecimal

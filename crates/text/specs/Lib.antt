@@ -1,2 +1,3 @@
--- Words, numbers and bytes as text.
+-- Words, numbers and bytes as text, and what a buffer holds after text has been put into it.
 pub mod Text
+pub mod Put

@@ -5,7 +5,7 @@ use Rattle.rules.proofs.Checks.{clock_passed}
 use Rattle.slots.specs.Slots.{first_slots}
 use Rattle.lent.specs.Record.{known, record_of, parts_of}
 use Rattle.settling.specs.Record.{stage_at}
-use Rattle.parts.proofs.Answering.{refused_in_place, valid_kept}
+use Rattle.parts.proofs.Answering.{refusal_in_place, valid_kept}
 use Rattle.parts.proofs.Refusing.{seen_broken}
 use Rattle.clocking.proofs.ClockDone.{numbered, clocked_done}
 use Rattle.clocking.proofs.clock_in_place.Goals as goal
@@ -14,7 +14,7 @@ pub returns-in_err-check-clause-promised : goal.returns-in_err-check-clause-prom
 returns-in_err-check-clause-promised c =
     let a = c.args in
     let lent = parts_of a.state.now a.list.now in
-    refused_in_place lent (clock _ _) _ _ c.from_residual.ensures.1
+    refusal_in_place lent (clock _ _) _ _ c.from_residual.ensures.1
     (numbered lent a.reading a.output.now _ _ (seen_broken c.of.ensures c.broken-broken.ensures) c.in_err-check.ensures)
 
 pub alive-places-requires : goal.alive-places-requires

@@ -5,7 +5,7 @@ use Rattle.rules.proofs.Checks.{receive_passed}
 use Rattle.slots.specs.Slots.{first_slots}
 use Rattle.lent.specs.Record.{known, parts_of, record_of}
 use Rattle.settling.specs.Record.{stage_at}
-use Rattle.parts.proofs.Answering.{refused_in_place, valid_kept}
+use Rattle.parts.proofs.Answering.{refusal_in_place, valid_kept}
 use Rattle.checking.proofs.Checking.{wide_reads, wide-message}
 use Rattle.receiving.proofs.ReceiveDone.{seen_checked, room, received-done}
 use Rattle.receiving.proofs.receive_wide.Goals as goal
@@ -13,7 +13,7 @@ use Rattle.receiving.proofs.receive_wide.Goals as goal
 pub returns-in_err-check_receive-clause-promised : goal.returns-in_err-check_receive-clause-promised
 returns-in_err-check_receive-clause-promised c =
     let a = c.args in
-    refused_in_place (parts_of a.state.now a.list.now) (receive _ _) _ _ c.from_residual.ensures.1
+    refusal_in_place (parts_of a.state.now a.list.now) (receive _ _) _ _ c.from_residual.ensures.1
     (c.in_err-check_receive.ensures ∙ seen_checked a.frame.now a.output.now c.of.ensures)
 
 pub invariant_of-take : goal.invariant_of-take

@@ -13,7 +13,7 @@ use Rattle.slots.specs.Slots.{first_slots}
 use Rattle.slots.proofs.Kept.{listed_order}
 use Rattle.settling.specs.Record.{stage_at}
 use Rattle.lent.specs.Record.{known, parts_of, record_of}
-use Rattle.parts.proofs.Answering.{refused_in_place, valid_kept}
+use Rattle.parts.proofs.Answering.{refusal_in_place, valid_kept}
 use Rattle.parts.proofs.Refusing.{seen_broken}
 use Rattle.sending.proofs.SendDone.{Passed, numbered, checked, frame_fits, length-written, buffer-written, frame_reads, stage_handed, sent-done}
 use Rattle.sending.proofs.send_in_place.Goals as goal
@@ -34,7 +34,7 @@ unfolding send_deadline
 returns-in_err-check-clause-promised c =
     let a = c.args in
     let lent = parts_of a.state.now a.list.now in
-    refused_in_place lent (send _ _ _ _) _ _ c.from_residual.ensures.1
+    refusal_in_place lent (send _ _ _ _) _ _ c.from_residual.ensures.1
     (numbered lent a.payload.now a.lifetime a.output.now a.buffer.now _ _ _ (seen_broken c.of.ensures c.broken-broken.ensures) c.passes_last-passes.ensures c.in_err-check.ensures)
 
 pub send_deadline-deadline-requires : goal.send_deadline-deadline-requires

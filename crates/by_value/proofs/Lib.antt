@@ -1,0 +1,2 @@
+-- A law of the calls that write no frame.
+pub mod Unframed

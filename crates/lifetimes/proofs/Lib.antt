@@ -1,0 +1,2 @@
+-- Laws of the lifetime of a send.
+pub mod Lifetime

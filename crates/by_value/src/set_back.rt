@@ -1,4 +1,4 @@
-// Set back by value, over that in place: it lends all from the struct that it was given.
+// Set back by value, over `set_back`, as that in place is: it lends all from the struct that it was given.
 ghost use Rattle.std.specs.Prelude.{[]};
 ghost use Rattle.rules.specs.Results.{Promised, set_back};
 ghost use Rattle.panel.specs.Record.{record_of, GivenBack, result_of, number_given};

@@ -1,6 +1,7 @@
 -- The listing printed part after part.
-use Rattle.std.proofs.Common.{ℕ, suc, ◌+◌, ◌*◌, ◌-◌, ◌≤◌, ◌<◌, ◌≡◌, refl, sym, ap, ap₂, ◌∙◌, List, [], ◌++◌, length, take, drop, replicate, append_assoc, length-append, take_at, take-append-drop, arith}
-use Rattle.std.specs.Prelude.{Option, Some, None, IfSome, Result, Ok, Err, IfOk, OnOk, OnErr}
+use Rattle.std.proofs.Common.{ℕ, suc, ◌+◌, ◌*◌, ◌-◌, ◌≤◌, ◌<◌, ◌≡◌, refl, sym, ap, ap₂, ◌∙◌, List, [], ◌++◌, length, take, drop, replicate, append_assoc, length-append, take_at, take-append-drop, arith, ControlFlow, Continue, Break}
+use Rattle.std.specs.Prelude.{Option, IfSome, Result, Ok, Err, IfOk, OnOk, OnErr}
+use Rattle.std.specs.ControlFlow.{continue_value}
 use Rattle.std.specs.Io.KnownBytes.{Appends}
 use Rattle.std.proofs.KnownBytes.{Appends-nil, Appends-trans}
 use Rattle.text.specs.Text.{ascii}
@@ -9,7 +10,7 @@ use Rattle.slots.specs.Slots.{slots_length, held, up_from}
 use Rattle.lent.specs.Record.{parts, record_of}
 use Rattle.listing.specs.declared.Listing.{Listing}
 use Rattle.listing.specs.Listing.{longest, listing}
-use Rattle.listing.specs.Step.{Standing, standing, state_at, step_room, Placed}
+use Rattle.listing.specs.Step.{Standing, standing, state_at, state_of, step_room, Placed}
 use Rattle.listing.proofs.Theorems.{long_listing}
 use Rattle.listing_parts.specs.Part.{lines_left, PartPut, PartsPut}
 use Rattle.listing_parts.specs.Part.PartsPut.{no_part, one_more}
@@ -37,18 +38,18 @@ pub record Printing (input : List ℕ) (before after : Option (List ℕ)) (s : S
   pub put : PartsPut input parts s
   pub count : written ≡ length parts
   pub got : Appends before after parts
-  pub few : IfSome s.next (λ l. written ≤ 16384 * l.place)
-  pub placed : IfSome s.next (λ l. Placed input l.place l.frames)
+  pub few : IfSome (continue_value s.next) (λ l. written ≤ 16384 * l.place)
+  pub placed : Placed input (state_of s).place (state_of s).frames
 
 -- how many bytes are left, and one more while the listing goes on
-abbrev pub bytes_left : List ℕ → Option Listing → ℕ
-bytes_left input None = 0
-bytes_left input (Some l) = suc (length input - l.place)
+abbrev pub bytes_left : List ℕ → ControlFlow Listing Listing → ℕ
+bytes_left input (Break l) = 0
+bytes_left input (Continue l) = suc (length input - l.place)
 
--- the next part, which has no more bytes than the text has room for: that it stands in the listing at its place, and what is written then
+-- the next part, of at most 16,384 bytes: that it stands in the listing at its place, and what is written then
 module _ {input : List ℕ} {before after : Option (List ℕ)} {p : Panel} {l : Listing} {written : ℕ}
-    (printing : Printing input before after (standing p (Some l)) written) (short : length input ≤ longest)
-    {q : Panel} {next : Option Listing} {part : List ℕ} (put : PartPut input (state_at p l) 16384 (standing q next) part) where
+    (printing : Printing input before after (standing p (Continue l)) written) (short : length input ≤ longest)
+    {q : Panel} {next : ControlFlow Listing Listing} {capacity : ℕ} {part : List ℕ} (put : PartPut input (state_at p l) capacity (standing q next) part) where
   pub part-there : length part ≤ 16384 → BytesAt (listing input) written part
   part-there room =
       record {
@@ -56,9 +57,9 @@ module _ {input : List ℕ} {before after : Option (List ℕ)} {p : Panel} {l : 
         small = omega (arith, room, printing.few, printing.placed.within);
       }
 
-  pub printing-next : {last : Option (List ℕ)} → length part ≤ 16384 → Appends after last part
+  pub printing-next : {last : Option (List ℕ)} → step_room ≤ capacity → length part ≤ 16384 → Appends after last part
       → Printing input before last (standing q next) (written + length part)
-  printing-next room got =
+  printing-next enough room got =
       record {
         parts = printing.parts ++ part;
         put = one_more printing.put put;
@@ -68,9 +69,10 @@ module _ {input : List ℕ} {before after : Option (List ℕ)} {p : Panel} {l : 
         placed = put.placed;
       }
     where
-      few : (m : Option Listing) → IfSome m (λ m. step_room ≤ 16384 → l.place < m.place) → IfSome m (λ m. written + length part ≤ 16384 * m.place)
-      few None further = tt
-      few (Some m) further = let moved = further (omega arith) in omega (arith, room, printing.few, moved)
+      few : (m : ControlFlow Listing Listing) → IfSome (continue_value m) (λ m. step_room ≤ capacity → l.place < m.place)
+          → IfSome (continue_value m) (λ m. written + length part ≤ 16384 * m.place)
+      few (Break m) further = tt
+      few (Continue m) further = let moved = further enough in omega (arith, room, printing.few, moved)
 
   -- if it is not written whole
   pub printing_failed : (last : Option (List ℕ)) → AppendsSome after last part → AppendsSome before last (listing input)
@@ -105,7 +107,7 @@ on_err (Err e) holds = holds
 -- nothing yet: the panel is a fresh one, with 0 in each part
 pub printing-none : {input : List ℕ} {before : Option (List ℕ)} {l : Listing} → (l.place ≡ 0) × (l.frames ≡ 0)
     → Printing input before before
-    (standing (record_of (parts 0 0 0 0 (replicate 64 0) (replicate 64 0) (replicate slots_length 0) 0)) (Some l)) 0
+    (standing (record_of (parts 0 0 0 0 (replicate 64 0) (replicate 64 0) (replicate slots_length 0) 0)) (Continue l)) 0
 unfolding held fresh up_from none64
 printing-none {before = before} begun =
     record {

@@ -13,6 +13,7 @@ use listing_parts::list_part;
 use slots::SLOTS;
 use std::io;
 use std::io::{ErrorKind, Read, Write};
+use std::ops::ControlFlow;
 
 // The bytes of the longest bundle that is listed.
 const LONGEST: usize = 65535;
@@ -76,9 +77,9 @@ fn print_listing<W: Write>(writer: &mut W, input: &[u8]) -> io::Result<usize>
         slots: &mut [0u8; SLOTS],
     };
     let mut text = ArrayString::<16384>::new();
-    let mut next = Some(start());
+    let mut next = ControlFlow::Continue(start());
     let mut written = 0;
-    while let Some(listing) = next {
+    while let ControlFlow::Continue(listing) = next {
         next = list_part(&mut state, &mut list, input, listing, &mut text);
         written = write_part(writer, input, written, text.as_str())?;
     }

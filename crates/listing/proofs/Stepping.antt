@@ -5,7 +5,7 @@ use mathlib.Core.List.{List, [], ◌++◌, append_assoc}
 use Prim.Native.Nat.{ℕ, ◌+◌, ◌*◌, ◌≤◌}
 use native.Mathlib.Omega.{arith}
 use lib.ListN.{length, length-append, replicate}
-use Rattle.std.specs.Prelude.{Some, None}
+use Rattle.std.proofs.Common.{Continue, Break}
 use Rattle.bundle.specs.declared.Step.TheVariants.{Frame, End, Broken}
 use Rattle.bundle.specs.Bundle.{step_at, frame_at}
 use Rattle.bundle.proofs.Steps.{step_found}
@@ -50,13 +50,12 @@ module _ (bundle : List ℕ) (before : Panel) (given : Listing) {start size next
       → length first ≤ length text + 48
       → last ≡ first ++ hand_lines answer.count output
       → length last ≤ length first + answer.count * 112
-      → Stepped bundle (state_at before given) text (standing after (Some (record { place = next; frames = given.frames + 1 }))) last
+      → Stepped bundle (state_at before given) text (standing after (Continue (record { place = next; frames = given.frames + 1 }))) last
   taken_stepped {text} {first} {last} placed line line_short lines lines_short =
       let few = few_handed in
       let found = step_found bundle given.place start size next frame in
       record {
         lines = rw (frame_lines, lines, line) (append_assoc text (frame_line (given.frames + 1) answer.number) (hand_lines answer.count output));
-        panel = rw frame_state refl;
         state = sym frame_state;
         more = rw frame refl;
         short = omega (arith, line_short, lines_short);
@@ -68,35 +67,35 @@ module _ (bundle : List ℕ) (before : Panel) (given : Listing) {start size next
   pub refused_stepped : {text last : List ℕ} → Placed bundle given.place given.frames → answer.count ≡ 0
       → last ≡ text ++ frame_line (given.frames + 1) answer.number
       → length last ≤ length text + 48
-      → Stepped bundle (state_at before given) text (standing after (Some (record { place = next; frames = given.frames + 1 }))) last
+      → Stepped bundle (state_at before given) text (standing after (Continue (record { place = next; frames = given.frames + 1 }))) last
   refused_stepped {text} {last} placed none line line_short =
       taken_stepped placed line line_short (rw none (no_lines last output)) (omega (arith, none))
 
 -- the last line was put
 module _ {bundle : List ℕ} {before : Panel} {given : Listing} {text after : List ℕ} where
-  last_stepped : (line : List ℕ) → lines_at bundle (state_at before given) ≡ line
+  last_stepped : (line : List ℕ) → Placed bundle given.place given.frames
+      → lines_at bundle (state_at before given) ≡ line
       → state_after bundle (state_at before given) ≡ state_at before given
       → goes_on (step_at bundle given.place) ≡ false
       → length line ≤ step_room
       → after ≡ text ++ line
-      → Stepped bundle (state_at before given) text (standing before None) after
-  last_stepped line line-is stays over short put =
+      → Stepped bundle (state_at before given) text (standing before (Break given)) after
+  last_stepped line placed line-is stays over short put =
       record {
         lines = rw line-is put;
-        panel = rw stays refl;
-        state = tt;
+        state = sym stays;
         more = sym over;
         short = rw put (rw length-append (omega (arith, short)));
-        placed = tt;
+        placed = placed;
         further = tt;
       }
 
-  pub end_stepped : step_at bundle given.place ≡ End → after ≡ text ++ ascii "end\n"
-      → Stepped bundle (state_at before given) text (standing before None) after
+  pub end_stepped : Placed bundle given.place given.frames → step_at bundle given.place ≡ End → after ≡ text ++ ascii "end\n"
+      → Stepped bundle (state_at before given) text (standing before (Break given)) after
   unfolding lines_at state_after ascii
-  end_stepped end = last_stepped (ascii "end\n") (rw end refl) (rw end refl) (rw end refl) (omega arith)
+  end_stepped placed end = last_stepped (ascii "end\n") placed (rw end refl) (rw end refl) (rw end refl) (omega arith)
 
-  pub broken_stepped : step_at bundle given.place ≡ Broken → after ≡ text ++ ascii "broken\n"
-      → Stepped bundle (state_at before given) text (standing before None) after
+  pub broken_stepped : Placed bundle given.place given.frames → step_at bundle given.place ≡ Broken → after ≡ text ++ ascii "broken\n"
+      → Stepped bundle (state_at before given) text (standing before (Break given)) after
   unfolding lines_at state_after ascii
-  broken_stepped broken = last_stepped (ascii "broken\n") (rw broken refl) (rw broken refl) (rw broken refl) (omega arith)
+  broken_stepped placed broken = last_stepped (ascii "broken\n") placed (rw broken refl) (rw broken refl) (rw broken refl) (omega arith)

@@ -13,6 +13,7 @@ use lent::{State, Waiting};
 use lines::{put_frame_line, put_hand_lines};
 use parts::OUTPUT;
 use receiving::receive_in_place;
+use std::ops::ControlFlow;
 
 // The bytes that the longest lines of a step have room in.
 pub const STEP_ROOM: usize = 4096;
@@ -34,15 +35,15 @@ pub fn start() -> Listing
     }
 }
 
-// One step: puts the lines of the next frame and gives where the listing then stands, or puts the last
-// line and gives none.
+// One step: puts the lines of the next frame and goes on, or puts the last line and ends. Either way it
+// gives where the listing then stands.
 pub fn list_next<const CAP: usize>(
     state: &mut State,
     list: &mut Waiting,
     bundle: &[u8],
     listing: Listing,
     text: &mut ArrayString<CAP>,
-) -> Option<Listing>
+) -> ControlFlow<Listing, Listing>
     requires { Placed bundle.now listing.place listing.frames × (array_string_len text.old + step_room ≤ CAP) }
     ensures same { SameState state.old state.new × SameWaiting list.old list.new }
     ensures stepped { Stepped bundle.now (state_at (record_of (parts_of state.old list.old)) listing) text.old.bytes
@@ -61,18 +62,18 @@ pub fn list_next<const CAP: usize>(
             if let Ok(accepted) = answer {
                 put_hand_lines(text, &output, accepted.count);
             }
-            Some(Listing {
+            ControlFlow::Continue(Listing {
                 place: next,
                 frames,
             })
         }
         Step::End => {
             text.push_str("end\n");
-            None
+            ControlFlow::Break(listing)
         }
         Step::Broken => {
             text.push_str("broken\n");
-            None
+            ControlFlow::Break(listing)
         }
     }
 }

@@ -5,7 +5,7 @@ use mathlib.Core.List.{List, [], ◌++◌, append_assoc}
 use Prim.Native.Nat.{ℕ, suc, ◌+◌, ◌≤◌, ◌<◌}
 use native.Mathlib.Omega.{arith}
 use lib.ListN.{length}
-use Rattle.std.specs.Prelude.{Option, Some, None}
+use Rattle.std.proofs.Common.{ControlFlow, Continue, Break}
 use Rattle.rules.specs.Panel.{Panel}
 use Rattle.listing.specs.declared.Listing.{Listing}
 use Rattle.listing.specs.Listing.{State, lines_at, state_after, lines_from}
@@ -15,12 +15,12 @@ use Rattle.listing.proofs.Theorems.{lines_from_enough}
 
 -- before a step: its lines, and what is left after it
 module _ {bundle : List ℕ} {given : State} {text after : List ℕ} {p : Panel} where
-  left_step : (next : Option Listing) → Stepped bundle given text (standing p next) after
+  left_step : (next : ControlFlow Listing Listing) → Stepped bundle given text (standing p next) after
       → lines_from (suc (length bundle)) bundle given ≡ lines_at bundle given ++ left_from bundle p next
   unfolding lines_from
-  left_step None stepped =
+  left_step (Break l) stepped =
       ap (λ (b : Bool). lines_at bundle given ++ cond b (lines_from (length bundle) bundle (state_after bundle given)) []) (sym stepped.more)
-  left_step (Some l) stepped =
+  left_step (Continue l) stepped =
       ap (λ (b : Bool). lines_at bundle given ++ cond b (lines_from (length bundle) bundle (state_after bundle given)) []) (sym stepped.more)
       ∙ ap (λ (s : State). lines_at bundle given ++ lines_from (length bundle) bundle s) (sym stepped.state)
       ∙ ap (λ (rest : List ℕ). lines_at bundle given ++ rest)
@@ -39,7 +39,7 @@ filling_none none placed = record { left = rw none refl; onward = omega arith; f
 
 module _ {bundle : List ℕ} {given : State} {p q : Panel} {l : Listing} {text after : List ℕ} (filling : Filling bundle given p l text) where
   -- what was left is the lines so far, those of one step more, and what is left then
-  left_more : (next : Option Listing) → Stepped bundle (state_at p l) text (standing q next) after
+  left_more : (next : ControlFlow Listing Listing) → Stepped bundle (state_at p l) text (standing q next) after
       → lines_from (suc (length bundle)) bundle given ≡ after ++ left_from bundle q next
   left_more next stepped =
       filling.left
@@ -48,21 +48,22 @@ module _ {bundle : List ℕ} {given : State} {p q : Panel} {l : Listing} {text a
       ∙ ap (λ (lines : List ℕ). lines ++ left_from bundle q next) (sym stepped.lines)
 
   -- the listing goes on after it
-  pub filling_step : {m : Listing} → Stepped bundle (state_at p l) text (standing q (Some m)) after → Filling bundle given q m after
+  pub filling_step : {m : Listing} → Stepped bundle (state_at p l) text (standing q (Continue m)) after → Filling bundle given q m after
   filling_step {m} stepped =
       record {
-        left = left_more (Some m) stepped;
+        left = left_more (Continue m) stepped;
         onward = omega (arith, filling.onward, stepped.further);
         further = λ _. omega (arith, filling.onward, stepped.further);
         placed = stepped.placed;
       }
 
   -- or ends
-  pub filled_last : {capacity : ℕ} → Stepped bundle (state_at p l) text (standing q None) after → PartPut bundle given capacity (standing q None) after
-  filled_last stepped = record { lines = left_more None stepped; full = tt; further = tt; placed = tt }
+  pub filled_last : {m : Listing} {capacity : ℕ} → Stepped bundle (state_at p l) text (standing q (Break m)) after
+      → PartPut bundle given capacity (standing q (Break m)) after
+  filled_last {m} stepped = record { lines = left_more (Break m) stepped; full = tt; further = tt; placed = stepped.placed }
 
 -- or no room is left for one more
 pub filled : {bundle : List ℕ} {given : State} {p : Panel} {l : Listing} {text : List ℕ} {capacity : ℕ} → Filling bundle given p l text
     → capacity < length text + step_room
-    → PartPut bundle given capacity (standing p (Some l)) text
+    → PartPut bundle given capacity (standing p (Continue l)) text
 filled filling full = record { lines = filling.left; full = full; further = λ room. filling.further (omega (arith, full)); placed = filling.placed }

@@ -6,7 +6,7 @@ use Prim.Native.Nat.{ℕ, suc, ◌≤◌}
 use borrow.Author.Tests.{le-ltb}
 use lib.ListN.{length, take, drop}
 use lib.Seq.{take_at, drop_at}
-use Rattle.std.specs.Prelude.{Some, None}
+use Rattle.std.proofs.Common.{Continue, Break}
 use Rattle.text.specs.Text.{ascii}
 use Rattle.rules.specs.Panel.{Panel}
 use Rattle.listing.specs.declared.Listing.{Listing}
@@ -28,7 +28,7 @@ parts-left {bundle} short (one_more {parts} {p} {l} {capacity} {s} {part} before
 
 -- each part stands in the listing behind the parts before it
 pub part_in_listing : {bundle parts : List ℕ} {p : Panel} {l : Listing} {capacity : ℕ} {s : Standing} {part : List ℕ} → length bundle ≤ longest
-    → PartsPut bundle parts (standing p (Some l))
+    → PartsPut bundle parts (standing p (Continue l))
     → PartPut bundle (state_at p l) capacity s part
     → take (length part) (drop (length parts) (listing bundle)) ≡ part
 part_in_listing {bundle} {parts} {p} {l} {capacity} {s} {part} short before put =
@@ -38,6 +38,7 @@ part_in_listing {bundle} {parts} {p} {l} {capacity} {s} {part} short before put 
     ∙ ap (take (length part)) (drop_at parts (part ++ lines_left bundle s) (length parts) refl)
     ∙ take_at part (lines_left bundle s) (length part) refl
 
--- where nothing is left, the parts put are together the listing
-pub parts_are_listing : {bundle parts : List ℕ} {p : Panel} → length bundle ≤ longest → PartsPut bundle parts (standing p None) → parts ≡ listing bundle
+-- where the listing has ended, the parts put are together the listing
+pub parts_are_listing : {bundle parts : List ℕ} {p : Panel} {l : Listing} → length bundle ≤ longest → PartsPut bundle parts (standing p (Break l))
+    → parts ≡ listing bundle
 parts_are_listing {bundle} {parts} short put = sym (append-nil parts) ∙ parts-left short put

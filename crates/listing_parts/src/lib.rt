@@ -9,16 +9,17 @@ ghost use Rattle.listing_parts.specs.Part.{PartPut};
 use arrayvec::ArrayString;
 use lent::{State, Waiting};
 use listing::{Listing, STEP_ROOM, list_next};
+use std::ops::ControlFlow;
 
 // Puts a part of the listing into the text: the lines of step after step, while the listing goes on and
-// there is room for a step's lines. Gives where the listing then stands, or none where it has ended.
+// there is room for a step's lines. Gives where the listing then stands, and whether it goes on.
 pub fn list_part<const CAP: usize>(
     state: &mut State,
     list: &mut Waiting,
     bundle: &[u8],
     mut listing: Listing,
     text: &mut ArrayString<CAP>,
-) -> Option<Listing>
+) -> ControlFlow<Listing, Listing>
     requires { Placed bundle.now listing.place listing.frames }
     ensures same { SameState state.old state.new × SameWaiting list.old list.new }
     ensures put { PartPut bundle.now (state_at (record_of (parts_of state.old list.old)) listing) CAP
@@ -28,5 +29,5 @@ pub fn list_part<const CAP: usize>(
     'steps: while text.remaining_capacity() >= STEP_ROOM {
         listing = list_next(state, list, bundle, listing, text)?;
     }
-    Some(listing)
+    ControlFlow::Continue(listing)
 }

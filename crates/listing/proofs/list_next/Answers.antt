@@ -27,8 +27,8 @@ returns-in_default-clause-stepped g c =
 
 pub returns-in-End-clause-stepped : goal.returns-in-End-clause-stepped
 unfolding ascii
-returns-in-End-clause-stepped g c = end_stepped {given = c.args.listing} (sym c.in-End.ensures) c.push_str.ensures.bytes
+returns-in-End-clause-stepped g c = end_stepped {given = c.args.listing} c.requires.0 (sym c.in-End.ensures) c.push_str.ensures.bytes
 
 pub returns-in-Broken-clause-stepped : goal.returns-in-Broken-clause-stepped
 unfolding ascii
-returns-in-Broken-clause-stepped g c = broken_stepped {given = c.args.listing} (sym c.in-Broken.ensures) c.push_str-in-Broken.ensures.bytes
+returns-in-Broken-clause-stepped g c = broken_stepped {given = c.args.listing} c.requires.0 (sym c.in-Broken.ensures) c.push_str-in-Broken.ensures.bytes

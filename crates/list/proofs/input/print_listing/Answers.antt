@@ -1,7 +1,6 @@
 -- `list::input::print_listing` meets its contract: it has written the parts put so far, which are together the listing where nothing is left.
 -- Assumes nothing.
-use Rattle.std.proofs.Common.{◌≡◌, ◌∙◌, ap, length, arith, rules}
-use Rattle.std.specs.Prelude.{None}
+use Rattle.std.proofs.Common.{◌∙◌, ap, length, arith}
 use Rattle.text.specs.Text.{ascii}
 use Rattle.listing_parts.proofs.Theorems.{parts_are_listing}
 use Rattle.list.proofs.Printing.{part-there, printing-next, long-there, long-all, long-got, long_failed, on_err, printing_failed, printing-none}
@@ -26,30 +25,28 @@ returns-then-input-gt-LONGEST-clause-err g c = long_failed _ (omega arith) _ _ _
 pub loop-next-init : goal.loop-next-init
 loop-next-init g c = printing-none c.start.ensures
 
-pub write_part-requires-in-Some : goal.write_part-requires-in-Some
-write_part-requires-in-Some g c =
+pub write_part-requires-in-Continue : goal.write_part-requires-in-Continue
+write_part-requires-in-Continue g c =
     let put = rw (← c.as_str.ensures.value) at c.list_part-next.ensures.put in
-    part-there (rw c.in-Some.is at c.loop-next.invariant) (omega arith) put c.as_str.ensures.fits
+    part-there (rw c.in-Continue.is at c.loop-next.invariant) (omega arith) put (omega (arith, c.as_str.ensures.fits))
 
 pub returns-in_err-written-clause-err : goal.returns-in_err-written-clause-err
 returns-in_err-written-clause-err g c =
     let put = rw (← c.as_str.ensures.value) at c.list_part-next.ensures.put in
-    on_err _ (printing_failed (rw c.in-Some.is at c.loop-next.invariant) (omega arith) put _ c.in_err-written.ensures.err)
+    on_err _ (printing_failed (rw c.in-Continue.is at c.loop-next.invariant) (omega arith) put _ c.in_err-written.ensures.err)
 
 pub loop-next-preserved : goal.loop-next-preserved
 loop-next-preserved g c =
     let put = rw (← c.as_str.ensures.value) at c.list_part-next.ensures.put in
     rw c.in_ok-written.ensures.place
-    (printing-next (rw c.in-Some.is at c.loop-next.invariant) (omega arith) put c.as_str.ensures.fits c.in_ok-written.ensures.bytes)
+    (printing-next (rw c.in-Continue.is at c.loop-next.invariant) (omega arith) put (omega arith) (omega (arith, c.as_str.ensures.fits)) c.in_ok-written.ensures.bytes)
 
 pub returns-clause-all : goal.returns-clause-all
 returns-clause-all g c =
     let l = c.loop-next in
-    let over : l.next ≡ None = search rules in
-    l.invariant.count ∙ ap length (parts_are_listing (omega arith) (rw over at l.invariant.put))
+    l.invariant.count ∙ ap length (parts_are_listing (omega arith) (rw c.in_default.is at l.invariant.put))
 
 pub returns-clause-bytes : goal.returns-clause-bytes
 returns-clause-bytes g c =
     let l = c.loop-next in
-    let over : l.next ≡ None = search rules in
-    rw (parts_are_listing (omega arith) (rw over at l.invariant.put)) at l.invariant.got
+    rw (parts_are_listing (omega arith) (rw c.in_default.is at l.invariant.put)) at l.invariant.got

@@ -1,9 +1,9 @@
 -- `choosing::choice` meets its contract: what is found so far is the choice among the messages before the place. Assumes nothing.
-use mathlib.Core.Path.{◌≡◌, sym, ◌∙◌}
+use mathlib.Core.Path.{sym, ◌∙◌}
 use Prim.Native.Nat.{◌<◌}
 use native.Mathlib.Numerals.{add-one}
 use native.Mathlib.Omega.{arith}
-use lib.ListN.{get_or, length, take}
+use lib.ListN.{take}
 use lib.Seq.{get_or-take, length-take-le}
 use Rattle.slots.specs.Slots.{held}
 use Rattle.choosing.specs.Choice.{asking}

@@ -1,14 +1,10 @@
 -- `choosing::ready` meets its contract. Its loop's invariant is `MetBelow`: the entries of the panels so far are met, and were visited. Assumes
 -- nothing.
-use mathlib.Core.Path.{◌≡◌, sym, ◌∙◌, subst}
-use Prim.Native.Nat.{ℕ, ◌+◌, ◌*◌, ◌^◌, ◌<◌}
+use mathlib.Core.Path.{sym, ◌∙◌, subst}
+use Prim.Native.Nat.{ℕ, ◌^◌, ◌<◌}
 use native.Mathlib.Omega.{arith}
 use borrow.Author.Rules.{rules}
-use lib.ListN.{get_or}
-use Rattle.numbers.specs.Numbers.{number_at}
-use Rattle.rules.specs.Sizes.{width}
-use Rattle.slots.proofs.SetBits.{next}
-use Rattle.choosing.proofs.Turns.{MetBelow, met_by, met_start, met_room, end_ready, end_visits, stop_ready, stop_visits, turn_on}
+use Rattle.choosing.proofs.Turns.{MetBelow, met_start, met_room, end_ready, end_visits, stop_ready, stop_visits, turn_on}
 use Rattle.choosing.proofs.ready.Goals as goal
 
 pub loop-bits-init : goal.loop-bits-init

@@ -1,5 +1,5 @@
 -- `panel::panel_fresh` meets its contract: a number other than 0 is 11. Assumes nothing.
-use Rattle.std.proofs.Common.{ℕ, sym, ap, ◌∙◌}
+use Rattle.std.proofs.Common.{ℕ, ap, ◌∙◌}
 use Rattle.parts.specs.declared.answer.Answer.{Answer}
 use Rattle.panel.proofs.Fresh.{fresh_refusal}
 use Rattle.panel.proofs.panel_fresh.Goals as goal

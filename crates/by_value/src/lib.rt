@@ -1,5 +1,5 @@
-// Receive, clock and set back by value, for callers in Rattle, thin over those in place (set back over the
-// time that it leaves). Each accepts any input; what it promises is that of documents 01 and 02, for every argument.
+// Receive, clock and set back by value, for callers in Rattle, thin over those in place (set back over
+// `set_back`, as that in place is). Each accepts any input; what it promises is that of documents 01 and 02, for every argument.
 #![tactic(auto)]
 
 mod clock;

@@ -24,6 +24,12 @@ pub record Moving (before places : List ℕ) (slot : ℕ) (slots : List ℕ) : T
 pub moving_none : (before places : List ℕ) → Slots before → Moving before places 0 before
 moving_none before places size = record { moved = λ k lt. absurd (omega arith); others = λ k le. refl; size = size }
 
+-- the frame at the place that is listed next has not moved
+module _ (before places : List ℕ) (slot count : ℕ) (slots : List ℕ) (moving : Moving before places slot slots)
+    (listed : Listed before count places) (lt : slot < count) where
+  pub reads_place : Reads (frame_at slots (get_or places slot 0))
+  reads_place = rw (moving.others (get_or places slot 0) (listed.rises slot lt)) (listed.reads slot lt)
+
 -- a turn, at the place that is listed there
 module _ (before places : List ℕ) (slot count : ℕ) (slots : List ℕ) (place : ℕ) (moving : Moving before places slot slots)
     (listed : Listed before count places) (turn : slot < length (take count places)) (is : place ≡ get_or (take count places) slot 0) where
@@ -36,12 +42,8 @@ module _ (before places : List ℕ) (slot count : ℕ) (slots : List ℕ) (place
   here : frame_at slots place ≡ frame_at before (get_or places slot 0)
   here = moving.others place (omega (arith, place_is, listed.rises slot lt)) ∙ ap (frame_at before) place_is
 
-  -- the frame at the place has not moved
-  pub reads_place : Reads (frame_at slots place)
-  reads_place = rw here (listed.reads slot lt)
-
   short : length_at slots place ≤ buffer_length
-  short = reads_fits slots place reads_place
+  short = reads_fits slots place (rw here (listed.reads slot lt))
 
   -- the length and the frame at the place, which has not moved, lie within the slots
   pub place_within : place * slot_length + 2 + length_at slots place ≤ slots_length

@@ -1,85 +1,86 @@
-// The lines that the program "list" prints, put behind a text of fixed capacity. An internal crate.
-// Precondition: room in the text.
+// The lines that the program "list" prints, put behind a text in lent memory. An internal crate.
+// Precondition: room in its buffer.
 #![tactic(auto)]
 
-ghost use Rattle.std.specs.Prelude.{◌≡◌, ◌++◌, ◌+◌, ◌*◌, ◌≤◌, length};
+ghost use Rattle.std.specs.Prelude.{◌+◌, ◌*◌, ◌≤◌, length};
 ghost use Rattle.log_records.specs.LogRecords.{log_record_at};
-ghost use Rattle.arrayvec.specs.ArrayString.{array_string_len};
+ghost use Rattle.text.specs.Put.{RoomBehind, PutBehind};
 ghost use Rattle.lines.specs.Lines.{number_or_0, outcome, frame_line, payload_text, hand_line, hand_lines};
 
-use arrayvec::ArrayString;
 use frame::Refusal;
 use log_records::{log_payload, panel_log_fields};
-use text::{put_decimal, put_hexadecimal};
+use text::{Text, put_byte, put_decimal, put_hexadecimal, put_item, put_start, put_words};
 
-// Puts what was answered, `taken` or the number of the refusal.
+// Puts what was answered: `taken` for 0, or the number.
 #[tactic(auto, using(crate::proofs::Lines::outcome_taken, crate::proofs::Lines::outcome_refused), unfolding(text::specs::Text::ascii))]
-fn put_outcome<const CAP: usize>(text: &mut ArrayString<CAP>, refusal: Option<Refusal>)
-    requires { array_string_len text.old + 20 ≤ CAP }
-    ensures bytes { text.new.bytes ≡ text.old.bytes ++ outcome (number_or_0 refusal) }
-    ensures short { array_string_len text.new ≤ array_string_len text.old + 20 }
+fn put_outcome(text: &mut Text, number: u8)
+    requires { RoomBehind text.old 20 }
+    ensures bytes { PutBehind text.old (outcome number) text.new }
+    ensures short { text.new.at ≤ text.old.at + 20 }
 {
-    match refusal {
-        None => text.push_str("taken"),
-        Some(refusal) => put_decimal(text, u64::from(refusal.number())),
+    if number == 0 {
+        put_words(text, b"taken");
+    } else {
+        put_decimal(text, u64::from(number));
     }
 }
 
-// Puts the line of a frame: its number from 1, and what was answered.
-#[tactic(auto, using(crate::proofs::Lines::frame_pieces), unfolding(text::specs::Text::ascii))]
-pub fn put_frame_line<const CAP: usize>(
-    text: &mut ArrayString<CAP>,
-    frame: u64,
-    refusal: Option<Refusal>,
-)
-    requires { array_string_len text.old + 48 ≤ CAP }
-    ensures bytes { text.new.bytes ≡ text.old.bytes ++ frame_line frame (number_or_0 refusal) }
-    ensures short { array_string_len text.new ≤ array_string_len text.old + 48 }
+// Puts the line of a frame: its number from 1, and what was answered, `taken` for 0.
+pub fn put_frame_line(text: &mut Text, frame: u64, number: u8)
+    requires { RoomBehind text.old 48 }
+    ensures bytes { PutBehind text.old (frame_line frame number) text.new }
+    ensures short { text.new.at ≤ text.old.at + 48 }
 {
-    text.push_str("frame ");
-    put_decimal(text, frame);
-    text.push_str(" ");
-    put_outcome(text, refusal);
-    text.push_str("\n");
+    put_start(text, b"frame ", frame);
+    put_outcome(text, number);
+    put_byte(text, b'\n');
+}
+
+// Puts the line of a frame that was taken, or refused.
+pub fn put_answer_line(text: &mut Text, frame: u64, refusal: Option<Refusal>)
+    requires { RoomBehind text.old 48 }
+    ensures bytes { PutBehind text.old (frame_line frame (number_or_0 refusal)) text.new }
+    ensures short { text.new.at ≤ text.old.at + 48 }
+{
+    match refusal {
+        None => put_frame_line(text, frame, 0),
+        Some(refusal) => put_frame_line(text, frame, refusal.number()),
+    }
 }
 
 // Puts a payload in hexadecimal, or `-` for an empty one.
 #[tactic(auto, using(crate::proofs::Lines::payload_text_none, crate::proofs::Lines::payload_text_some), unfolding(text::specs::Text::ascii))]
-fn put_payload<const CAP: usize>(text: &mut ArrayString<CAP>, payload: &[u8])
-    requires { (array_string_len text.old + 64 ≤ CAP) × (length payload.now ≤ 32) }
-    ensures bytes { text.new.bytes ≡ text.old.bytes ++ payload_text payload.now }
-    ensures short { array_string_len text.new ≤ array_string_len text.old + 64 }
+fn put_payload(text: &mut Text, payload: &[u8])
+    requires { RoomBehind text.old 64 × (length payload.now ≤ 32) }
+    ensures bytes { PutBehind text.old (payload_text payload.now) text.new }
+    ensures short { text.new.at ≤ text.old.at + 64 }
 {
     if payload.is_empty() {
-        text.push_str("-");
+        put_byte(text, b'-');
     } else {
         put_hexadecimal(text, payload);
     }
 }
 
 // Puts the line of the log record of that index.
-#[tactic(auto, using(crate::proofs::Lines::hand_pieces, log_records::proofs::Places::payload_short), unfolding(text::specs::Text::ascii))]
-fn put_hand_line<const CAP: usize>(text: &mut ArrayString<CAP>, output: &[u8], index: usize)
-    requires { array_string_len text.old + 112 ≤ CAP }
-    ensures bytes { text.new.bytes ≡ text.old.bytes ++ hand_line (log_record_at output.now index) }
-    ensures short { array_string_len text.new ≤ array_string_len text.old + 112 }
+#[tactic(auto, using(log_records::proofs::Places::payload_short))]
+fn put_hand_line(text: &mut Text, output: &[u8], index: usize)
+    requires { RoomBehind text.old 112 }
+    ensures bytes { PutBehind text.old (hand_line (log_record_at output.now index)) text.new }
+    ensures short { text.new.at ≤ text.old.at + 112 }
 {
     let fields = panel_log_fields(output, index);
-    text.push_str("hand ");
-    put_decimal(text, u64::from(fields.source));
-    text.push_str(" ");
-    put_decimal(text, fields.deadline);
-    text.push_str(" ");
+    put_start(text, b"hand ", u64::from(fields.source));
+    put_item(text, fields.deadline, b' ');
     put_payload(text, log_payload(output, index));
-    text.push_str("\n");
+    put_byte(text, b'\n');
 }
 
 // Puts the lines of so many log records at the start of an output.
-#[tactic(auto, using(crate::proofs::Lines::no_lines, crate::proofs::Lines::next_line))]
-pub fn put_hand_lines<const CAP: usize>(text: &mut ArrayString<CAP>, output: &[u8], count: usize)
-    requires { array_string_len text.old + count * 112 ≤ CAP }
-    ensures bytes { text.new.bytes ≡ text.old.bytes ++ hand_lines count output.now }
-    ensures short { array_string_len text.new ≤ array_string_len text.old + count * 112 }
+pub fn put_hand_lines(text: &mut Text, output: &[u8], count: usize)
+    requires { RoomBehind text.old (count * 112) }
+    ensures bytes { PutBehind text.old (hand_lines count output.now) text.new }
+    ensures short { text.new.at ≤ text.old.at + count * 112 }
 {
     for index in 0..count {
         put_hand_line(text, output, index);

@@ -1,9 +1,10 @@
 -- The listing printed part after part.
-use Rattle.std.proofs.Common.{ℕ, suc, ◌+◌, ◌*◌, ◌-◌, ◌≤◌, ◌<◌, ◌≡◌, refl, sym, ap, ap₂, ◌∙◌, List, [], ◌++◌, length, take, drop, replicate, append_assoc, length-append, take_at, take-append-drop, arith, ControlFlow, Continue, Break}
+use Rattle.std.proofs.Common.{ℕ, suc, ◌+◌, ◌*◌, ◌-◌, ◌≤◌, ◌<◌, ◌≡◌, refl, sym, ap, ap₂, ◌∙◌, List, [], ◌++◌, length, take, drop, replicate, append_assoc, length-append, length-take, take_at, take-append-drop, arith, ControlFlow, Continue, Break}
 use Rattle.std.specs.Prelude.{Option, IfSome, Result, Ok, Err, IfOk, OnOk, OnErr}
 use Rattle.std.specs.ControlFlow.{continue_value}
 use Rattle.std.specs.Io.KnownBytes.{Appends}
 use Rattle.std.proofs.KnownBytes.{Appends-nil, Appends-trans}
+use Rattle.text.specs.declared.Text.{Text}
 use Rattle.text.specs.Text.{ascii}
 use Rattle.rules.specs.Panel.{Panel, none64, fresh}
 use Rattle.slots.specs.Slots.{slots_length, held, up_from}
@@ -12,7 +13,7 @@ use Rattle.listing.specs.declared.Listing.{Listing}
 use Rattle.listing.specs.Listing.{longest, listing}
 use Rattle.listing.specs.Step.{Standing, standing, state_at, state_of, step_room, Placed}
 use Rattle.listing.proofs.Theorems.{long_listing}
-use Rattle.listing_parts.specs.Part.{lines_left, PartPut, PartsPut}
+use Rattle.listing_parts.specs.Part.{lines_left, part_in, PartPut, PartsPut}
 use Rattle.listing_parts.specs.Part.PartsPut.{no_part, one_more}
 use Rattle.listing_parts.proofs.Theorems.{part_in_listing, parts-left}
 use Rattle.list.specs.Written.{BytesAt, AppendsSome}
@@ -46,38 +47,50 @@ abbrev pub bytes_left : List ℕ → ControlFlow Listing Listing → ℕ
 bytes_left input (Break l) = 0
 bytes_left input (Continue l) = suc (length input - l.place)
 
--- the next part, of at most 16,384 bytes: that it stands in the listing at its place, and what is written then
+-- the next part, of at most 16,384 bytes: its length, that it stands in the listing at its place, and what is written then
 module _ {input : List ℕ} {before after : Option (List ℕ)} {p : Panel} {l : Listing} {written : ℕ}
     (printing : Printing input before after (standing p (Continue l)) written) (short : length input ≤ longest)
-    {q : Panel} {next : ControlFlow Listing Listing} {capacity : ℕ} {part : List ℕ} (put : PartPut input (state_at p l) capacity (standing q next) part) where
-  pub part-there : length part ≤ 16384 → BytesAt (listing input) written part
+    {q : Panel} {next : ControlFlow Listing Listing} {text filled : Text} (put : PartPut input (state_at p l) text (standing q next) filled) where
+  part_length : filled.at ≡ length (part_in filled)
+  part_length = omega (arith, put.put.put.place)
+
+  -- it ends in the buffer
+  pub part_within : filled.at ≤ length filled.buffer.now
+  part_within = omega (arith, part_length, length-take filled.at filled.buffer.now)
+
+  -- which is no longer than it was
+  pub part_room : length text.buffer.now ≤ 16384 → length (part_in filled) ≤ 16384
+  part_room small = omega (arith, small, part_length, part_within, put.put.put.kept)
+
+  pub part-there : length (part_in filled) ≤ 16384 → BytesAt (listing input) written (part_in filled)
   part-there room =
       record {
         bytes = rw printing.count (part_in_listing short printing.put put);
         small = omega (arith, room, printing.few, printing.placed.within);
       }
 
-  pub printing-next : {last : Option (List ℕ)} → step_room ≤ capacity → length part ≤ 16384 → Appends after last part
-      → Printing input before last (standing q next) (written + length part)
+  pub printing-next : {last : Option (List ℕ)} → step_room ≤ length text.buffer.now → length (part_in filled) ≤ 16384
+      → Appends after last (part_in filled)
+      → Printing input before last (standing q next) (written + length (part_in filled))
   printing-next enough room got =
       record {
-        parts = printing.parts ++ part;
+        parts = printing.parts ++ part_in filled;
         put = one_more printing.put put;
-        count = omega (arith, printing.count, length-append printing.parts part);
-        got = Appends-trans _ _ _ printing.parts part printing.got got;
+        count = omega (arith, printing.count, length-append printing.parts (part_in filled));
+        got = Appends-trans _ _ _ printing.parts (part_in filled) printing.got got;
         few = few next put.further;
         placed = put.placed;
       }
     where
-      few : (m : ControlFlow Listing Listing) → IfSome (continue_value m) (λ m. step_room ≤ capacity → l.place < m.place)
-          → IfSome (continue_value m) (λ m. written + length part ≤ 16384 * m.place)
+      few : (m : ControlFlow Listing Listing) → IfSome (continue_value m) (λ m. step_room ≤ length text.buffer.now → l.place < m.place)
+          → IfSome (continue_value m) (λ m. written + length (part_in filled) ≤ 16384 * m.place)
       few (Break m) further = tt
       few (Continue m) further = let moved = further enough in omega (arith, room, printing.few, moved)
 
   -- if it is not written whole
-  pub printing_failed : (last : Option (List ℕ)) → AppendsSome after last part → AppendsSome before last (listing input)
+  pub printing_failed : (last : Option (List ℕ)) → AppendsSome after last (part_in filled) → AppendsSome before last (listing input)
   printing_failed last =
-      some_more before after last printing.parts part (lines_left input (standing q next)) (listing input)
+      some_more before after last printing.parts (part_in filled) (lines_left input (standing q next)) (listing input)
       (ap (λ (rest : List ℕ). printing.parts ++ rest) (sym put.lines) ∙ parts-left short printing.put) printing.got
 
 -- of a longer input only `long`

@@ -6,7 +6,6 @@ ghost use Rattle.std.specs.Io.KnownBytes.{Appends};
 ghost use Rattle.listing.specs.Listing.{listing as listingOf};
 ghost use Rattle.list.specs.Written.{BytesAt, AppendsSome};
 
-use arrayvec::ArrayString;
 use lent::{State, Waiting};
 use listing::start;
 use listing_parts::list_part;
@@ -14,6 +13,7 @@ use slots::SLOTS;
 use std::io;
 use std::io::{ErrorKind, Read, Write};
 use std::ops::ControlFlow;
+use text::Text;
 
 // The bytes of the longest bundle that is listed.
 const LONGEST: usize = 65535;
@@ -41,14 +41,14 @@ fn write_part<W: Write>(
     writer: &mut W,
     input: &[u8],
     written: usize,
-    part: &str,
+    part: &[u8],
 ) -> io::Result<usize>
     requires { BytesAt (listingOf input.now) written part.now }
     ensures place { IfOk result (λ n. n ≡ written + length part.now) }
     ensures bytes { OnOk result (Appends (W.contents writer.old) (W.contents writer.new) part.now) }
     ensures err { OnErr result (AppendsSome (W.contents writer.old) (W.contents writer.new) part.now) }
 {
-    write_whole(writer, part.as_bytes())?;
+    write_whole(writer, part)?;
     Ok(written + part.len())
 }
 
@@ -62,7 +62,7 @@ fn print_listing<W: Write>(writer: &mut W, input: &[u8]) -> io::Result<usize>
         (listingOf input.now)) }
 {
     if LONGEST < input.len() {
-        return write_part(writer, input, 0, "long\n");
+        return write_part(writer, input, 0, b"long\n");
     }
     let mut state = State {
         own: 0,
@@ -76,12 +76,15 @@ fn print_listing<W: Write>(writer: &mut W, input: &[u8]) -> io::Result<usize>
         count: &mut 0,
         slots: &mut [0u8; SLOTS],
     };
-    let mut text = ArrayString::<16384>::new();
+    let mut text = Text {
+        buffer: &mut [0u8; 16384],
+        at: 0,
+    };
     let mut next = ControlFlow::Continue(start());
     let mut written = 0;
     while let ControlFlow::Continue(listing) = next {
         next = list_part(&mut state, &mut list, input, listing, &mut text);
-        written = write_part(writer, input, written, text.as_str())?;
+        written = write_part(writer, input, written, text.as_bytes())?;
     }
     Ok(written)
 }

@@ -1,10 +1,10 @@
 -- A step of the listing, one law for each way that it ends. Assumes nothing.
 use mathlib.Core.Path.{◌≡◌, refl, sym, ap}
 use mathlib.Core.Bool.{false}
-use mathlib.Core.List.{List, [], ◌++◌, append_assoc}
+use mathlib.Core.List.{List, []}
 use Prim.Native.Nat.{ℕ, ◌+◌, ◌*◌, ◌≤◌}
 use native.Mathlib.Omega.{arith}
-use lib.ListN.{length, length-append, replicate}
+use lib.ListN.{length, replicate}
 use Rattle.std.proofs.Common.{Continue, Break}
 use Rattle.bundle.specs.declared.Step.TheVariants.{Frame, End, Broken}
 use Rattle.bundle.specs.Bundle.{step_at, frame_at}
@@ -15,7 +15,10 @@ use Rattle.rules.specs.Results.{Result, receive, Promised}
 use Rattle.rules.proofs.Theorems.{count_33}
 use Rattle.parts.specs.declared.answer.Answer.{Answer}
 use Rattle.parts.specs.Record.{answered}
+use Rattle.text.specs.declared.Text.{Text}
 use Rattle.text.specs.Text.{ascii}
+use Rattle.text.specs.Put.{RoomBehind, PutBehind}
+use Rattle.text.proofs.Puts.{put_behind}
 use Rattle.lines.specs.Lines.{frame_line, hand_lines}
 use Rattle.lines.proofs.Lines.{no_lines}
 use Rattle.listing.specs.declared.Listing.{Listing}
@@ -45,17 +48,18 @@ module _ (bundle : List ℕ) (before : Panel) (given : Listing) {start size next
   frame_state = rw (frame, ← result)
 
   -- its line is put, and those of the log records
-  pub taken_stepped : {text first last : List ℕ} → Placed bundle given.place given.frames
-      → first ≡ text ++ frame_line (given.frames + 1) answer.number
-      → length first ≤ length text + 48
-      → last ≡ first ++ hand_lines answer.count output
-      → length last ≤ length first + answer.count * 112
+  pub taken_stepped : {text first last : Text} → Placed bundle given.place given.frames
+      → RoomBehind text step_room
+      → PutBehind text (frame_line (given.frames + 1) answer.number) first
+      → first.at ≤ text.at + 48
+      → PutBehind first (hand_lines answer.count output) last
+      → last.at ≤ first.at + answer.count * 112
       → Stepped bundle (state_at before given) text (standing after (Continue (record { place = next; frames = given.frames + 1 }))) last
-  taken_stepped {text} {first} {last} placed line line_short lines lines_short =
+  taken_stepped placed room line line_short lines lines_short =
       let few = few_handed in
       let found = step_found bundle given.place start size next frame in
       record {
-        lines = rw (frame_lines, lines, line) (append_assoc text (frame_line (given.frames + 1) answer.number) (hand_lines answer.count output));
+        lines = rw frame_lines (put_behind (omega (arith, room)) line lines);
         state = sym frame_state;
         more = rw frame refl;
         short = omega (arith, line_short, lines_short);
@@ -64,38 +68,39 @@ module _ (bundle : List ℕ) (before : Panel) (given : Listing) {start size next
       }
 
   -- where it was refused only its line
-  pub refused_stepped : {text last : List ℕ} → Placed bundle given.place given.frames → answer.count ≡ 0
-      → last ≡ text ++ frame_line (given.frames + 1) answer.number
-      → length last ≤ length text + 48
+  pub refused_stepped : {text last : Text} → Placed bundle given.place given.frames → answer.count ≡ 0
+      → RoomBehind text step_room
+      → PutBehind text (frame_line (given.frames + 1) answer.number) last
+      → last.at ≤ text.at + 48
       → Stepped bundle (state_at before given) text (standing after (Continue (record { place = next; frames = given.frames + 1 }))) last
-  refused_stepped {text} {last} placed none line line_short =
-      taken_stepped placed line line_short (rw none (no_lines last output)) (omega (arith, none))
+  refused_stepped {last = last} placed none room line line_short =
+      taken_stepped placed room line line_short (rw none (no_lines last output)) (omega (arith, none))
 
 -- the last line was put
-module _ {bundle : List ℕ} {before : Panel} {given : Listing} {text after : List ℕ} where
+module _ {bundle : List ℕ} {before : Panel} {given : Listing} {text after : Text} where
   last_stepped : (line : List ℕ) → Placed bundle given.place given.frames
       → lines_at bundle (state_at before given) ≡ line
       → state_after bundle (state_at before given) ≡ state_at before given
       → goes_on (step_at bundle given.place) ≡ false
       → length line ≤ step_room
-      → after ≡ text ++ line
+      → PutBehind text line after
       → Stepped bundle (state_at before given) text (standing before (Break given)) after
   last_stepped line placed line-is stays over short put =
       record {
         lines = rw line-is put;
         state = sym stays;
         more = sym over;
-        short = rw put (rw length-append (omega (arith, short)));
+        short = omega (arith, short, put.put.place);
         placed = placed;
         further = tt;
       }
 
-  pub end_stepped : Placed bundle given.place given.frames → step_at bundle given.place ≡ End → after ≡ text ++ ascii "end\n"
+  pub end_stepped : Placed bundle given.place given.frames → step_at bundle given.place ≡ End → PutBehind text (ascii "end\n") after
       → Stepped bundle (state_at before given) text (standing before (Break given)) after
   unfolding lines_at state_after ascii
   end_stepped placed end = last_stepped (ascii "end\n") placed (rw end refl) (rw end refl) (rw end refl) (omega arith)
 
-  pub broken_stepped : Placed bundle given.place given.frames → step_at bundle given.place ≡ Broken → after ≡ text ++ ascii "broken\n"
+  pub broken_stepped : Placed bundle given.place given.frames → step_at bundle given.place ≡ Broken → PutBehind text (ascii "broken\n") after
       → Stepped bundle (state_at before given) text (standing before (Break given)) after
   unfolding lines_at state_after ascii
   broken_stepped placed broken = last_stepped (ascii "broken\n") placed (rw broken refl) (rw broken refl) (rw broken refl) (omega arith)

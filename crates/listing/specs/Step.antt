@@ -1,10 +1,12 @@
 -- What one step of the listing promises.
-use Rattle.std.specs.Prelude.{ℕ, ◌+◌, ◌≤◌, ◌<◌, ◌≡◌, List, ◌++◌, length, IfSome, is_some}
+use Rattle.std.specs.Prelude.{ℕ, ◌+◌, ◌≤◌, ◌<◌, ◌≡◌, List, length, IfSome, is_some}
 use Rattle.std.specs.declared.ops.ControlFlow.{ControlFlow}
 use Rattle.std.specs.declared.ops.ControlFlow.TheVariants.{Continue, Break}
 use Rattle.std.specs.ControlFlow.{continue_value}
 use Rattle.bundle.specs.Bundle.{step_at}
 use Rattle.rules.specs.Panel.{Panel}
+use Rattle.text.specs.declared.Text.{Text}
+use Rattle.text.specs.Put.{PutBehind}
 use Rattle.listing.specs.declared.Listing.{Listing}
 use Rattle.listing.specs.Listing.{State, lines_at, state_after, goes_on}
 
@@ -37,10 +39,10 @@ abbrev pub step_room : ℕ
 step_room = 4096
 
 -- what a step gives: the lines are put, and the listing stands at the state after it; it goes on with a place further on, or ends
-pub record Stepped (bundle : List ℕ) (given : State) (text : List ℕ) (s : Standing) (after : List ℕ) : Type 0 where
-  pub lines : after ≡ text ++ lines_at bundle given
+pub record Stepped (bundle : List ℕ) (given : State) (text : Text) (s : Standing) (after : Text) : Type 0 where
+  pub lines : PutBehind text (lines_at bundle given) after
   pub state : state_of s ≡ state_after bundle given
   pub more : is_some (continue_value s.next) ≡ goes_on (step_at bundle given.place)
-  pub short : length after ≤ length text + step_room
+  pub short : after.at ≤ text.at + step_room
   pub placed : Placed bundle (state_of s).place (state_of s).frames
   pub further : IfSome (continue_value s.next) (λ l. given.place < l.place)

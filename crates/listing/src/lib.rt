@@ -2,18 +2,18 @@
 // lines. An internal crate. Precondition: a place in the bundle, and room for a step's lines.
 #![tactic(auto)]
 
-ghost use Rattle.std.specs.Prelude.{◌≡◌, ◌+◌, ◌≤◌};
-ghost use Rattle.arrayvec.specs.ArrayString.{array_string_len};
+ghost use Rattle.std.specs.Prelude.{◌≡◌};
 ghost use Rattle.lent.specs.Record.{parts_of, record_of, SameState, SameWaiting};
+ghost use Rattle.text.specs.Put.{RoomBehind};
 ghost use Rattle.listing.specs.Step.{step_room, standing, state_at, Placed, Stepped};
 
-use arrayvec::ArrayString;
 use bundle::{Step, part_at, step_at};
 use lent::{State, Waiting};
-use lines::{put_frame_line, put_hand_lines};
+use lines::{put_answer_line, put_hand_lines};
 use parts::OUTPUT;
 use receiving::receive_in_place;
 use std::ops::ControlFlow;
+use text::{Text, put_words};
 
 // The bytes that the longest lines of a step have room in.
 pub const STEP_ROOM: usize = 4096;
@@ -37,17 +37,17 @@ pub fn start() -> Listing
 
 // One step: puts the lines of the next frame and goes on, or puts the last line and ends. Either way it
 // gives where the listing then stands.
-pub fn list_next<const CAP: usize>(
+pub fn list_next(
     state: &mut State,
     list: &mut Waiting,
     bundle: &[u8],
     listing: Listing,
-    text: &mut ArrayString<CAP>,
+    text: &mut Text,
 ) -> ControlFlow<Listing, Listing>
-    requires { Placed bundle.now listing.place listing.frames × (array_string_len text.old + step_room ≤ CAP) }
+    requires { Placed bundle.now listing.place listing.frames × RoomBehind text.old step_room }
     ensures same { SameState state.old state.new × SameWaiting list.old list.new }
-    ensures stepped { Stepped bundle.now (state_at (record_of (parts_of state.old list.old)) listing) text.old.bytes
-        (standing (record_of (parts_of state.new list.new)) result) text.new.bytes }
+    ensures stepped { Stepped bundle.now (state_at (record_of (parts_of state.old list.old)) listing) text.old
+        (standing (record_of (parts_of state.new list.new)) result) text.new }
 {
     match step_at(bundle, listing.place) {
         Step::Frame {
@@ -58,7 +58,7 @@ pub fn list_next<const CAP: usize>(
             let mut output = [0u8; OUTPUT];
             let answer = receive_in_place(state, list, part_at(bundle, listing.place), &mut output);
             let frames = listing.frames + 1;
-            put_frame_line(text, frames as u64, answer.err());
+            put_answer_line(text, frames as u64, answer.err());
             if let Ok(accepted) = answer {
                 put_hand_lines(text, &output, accepted.count);
             }
@@ -68,11 +68,11 @@ pub fn list_next<const CAP: usize>(
             })
         }
         Step::End => {
-            text.push_str("end\n");
+            put_words(text, b"end\n");
             ControlFlow::Break(listing)
         }
         Step::Broken => {
-            text.push_str("broken\n");
+            put_words(text, b"broken\n");
             ControlFlow::Break(listing)
         }
     }

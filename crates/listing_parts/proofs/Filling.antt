@@ -4,17 +4,21 @@ use mathlib.Core.Bool.{Bool, cond}
 use mathlib.Core.List.{List, [], ◌++◌, append_assoc}
 use Prim.Native.Nat.{ℕ, suc, ◌+◌, ◌≤◌, ◌<◌}
 use native.Mathlib.Omega.{arith}
-use lib.ListN.{length}
+use lib.ListN.{length, take}
 use Rattle.std.proofs.Common.{ControlFlow, Continue, Break}
+use Rattle.numbers.proofs.Over.{take-over}
 use Rattle.rules.specs.Panel.{Panel}
+use Rattle.text.specs.declared.Text.{Text}
+use Rattle.text.specs.Put.{PutBehind}
+use Rattle.text.proofs.Puts.{put_none, put_behind}
 use Rattle.listing.specs.declared.Listing.{Listing}
 use Rattle.listing.specs.Listing.{State, lines_at, state_after, lines_from}
 use Rattle.listing.specs.Step.{standing, state_at, step_room, Placed, Stepped}
-use Rattle.listing_parts.specs.Part.{left_from, PartPut}
+use Rattle.listing_parts.specs.Part.{left_from, part_in, at_start, PartPut}
 use Rattle.listing.proofs.Theorems.{lines_from_enough}
 
 -- before a step: its lines, and what is left after it
-module _ {bundle : List ℕ} {given : State} {text after : List ℕ} {p : Panel} where
+module _ {bundle : List ℕ} {given : State} {text after : Text} {p : Panel} where
   left_step : (next : ControlFlow Listing Listing) → Stepped bundle given text (standing p next) after
       → lines_from (suc (length bundle)) bundle given ≡ lines_at bundle given ++ left_from bundle p next
   unfolding lines_from
@@ -27,30 +31,58 @@ module _ {bundle : List ℕ} {given : State} {text after : List ℕ} {p : Panel}
       (sym (lines_from_enough (length bundle) bundle (state_at p l) stepped.placed.within (omega (arith, stepped.further))))
 
 -- the lines put so far, and where the listing stands then
-pub record Filling (bundle : List ℕ) (given : State) (p : Panel) (l : Listing) (text : List ℕ) : Type 0 where
-  pub left : lines_from (suc (length bundle)) bundle given ≡ text ++ lines_from (suc (length bundle)) bundle (state_at p l)
+pub record Filling (bundle : List ℕ) (given : State) (text : Text) (p : Panel) (l : Listing) (now : Text) : Type 0 where
+  pub lines : List ℕ
+  pub put : PutBehind (at_start text) lines now
+  pub room : now.at ≤ length text.buffer.now
+  pub left : lines_from (suc (length bundle)) bundle given ≡ lines ++ lines_from (suc (length bundle)) bundle (state_at p l)
   pub onward : given.place ≤ l.place
-  pub further : 0 < length text → given.place < l.place
+  pub further : 0 < now.at → given.place < l.place
   pub placed : Placed bundle l.place l.frames
 
 -- none yet
-pub filling_none : {bundle text : List ℕ} {p : Panel} {l : Listing} → text ≡ [] → Placed bundle l.place l.frames → Filling bundle (state_at p l) p l text
-filling_none none placed = record { left = rw none refl; onward = omega arith; further = rw none (λ some. absurd (omega arith)); placed = placed }
+pub filling_none : {bundle : List ℕ} {p : Panel} {l : Listing} (text : Text) → Placed bundle l.place l.frames
+    → Filling bundle (state_at p l) text p l (at_start text)
+filling_none text placed =
+    record {
+      lines = [];
+      put = put_none (at_start text);
+      room = omega arith;
+      left = refl;
+      onward = omega arith;
+      further = λ some. absurd (omega arith);
+      placed = placed;
+    }
 
-module _ {bundle : List ℕ} {given : State} {p q : Panel} {l : Listing} {text after : List ℕ} (filling : Filling bundle given p l text) where
+-- they are the part that was put
+part_lines : (text : Text) {after : Text} {lines : List ℕ} → PutBehind (at_start text) lines after → part_in after ≡ lines
+part_lines text {after} {lines} put =
+    let size : after.at ≡ length lines = omega (arith, put.put.place) in
+    ap (λ (n : ℕ). take n after.buffer.now) size
+    ∙ ap (take (length lines)) put.put.bytes
+    ∙ take-over text.buffer.now lines
+
+module _ {bundle : List ℕ} {given : State} {text : Text} {p q : Panel} {l : Listing} {now after : Text} (filling : Filling bundle given text p l now) where
   -- what was left is the lines so far, those of one step more, and what is left then
-  left_more : (next : ControlFlow Listing Listing) → Stepped bundle (state_at p l) text (standing q next) after
-      → lines_from (suc (length bundle)) bundle given ≡ after ++ left_from bundle q next
+  left_more : (next : ControlFlow Listing Listing) → Stepped bundle (state_at p l) now (standing q next) after
+      → lines_from (suc (length bundle)) bundle given ≡ (filling.lines ++ lines_at bundle (state_at p l)) ++ left_from bundle q next
   left_more next stepped =
       filling.left
-      ∙ ap (λ (rest : List ℕ). text ++ rest) (left_step next stepped)
-      ∙ sym (append_assoc text (lines_at bundle (state_at p l)) (left_from bundle q next))
-      ∙ ap (λ (lines : List ℕ). lines ++ left_from bundle q next) (sym stepped.lines)
+      ∙ ap (λ (rest : List ℕ). filling.lines ++ rest) (left_step next stepped)
+      ∙ sym (append_assoc filling.lines (lines_at bundle (state_at p l)) (left_from bundle q next))
+
+  put_more : (next : ControlFlow Listing Listing) → Stepped bundle (state_at p l) now (standing q next) after
+      → PutBehind (at_start text) (filling.lines ++ lines_at bundle (state_at p l)) after
+  put_more next stepped = put_behind (omega arith) filling.put stepped.lines
 
   -- the listing goes on after it
-  pub filling_step : {m : Listing} → Stepped bundle (state_at p l) text (standing q (Continue m)) after → Filling bundle given q m after
-  filling_step {m} stepped =
+  pub filling_step : {m : Listing} → now.at + step_room ≤ length text.buffer.now → Stepped bundle (state_at p l) now (standing q (Continue m)) after
+      → Filling bundle given text q m after
+  filling_step {m} room stepped =
       record {
+        lines = filling.lines ++ lines_at bundle (state_at p l);
+        put = put_more (Continue m) stepped;
+        room = omega (arith, room, stepped.short);
         left = left_more (Continue m) stepped;
         onward = omega (arith, filling.onward, stepped.further);
         further = λ _. omega (arith, filling.onward, stepped.further);
@@ -58,12 +90,23 @@ module _ {bundle : List ℕ} {given : State} {p q : Panel} {l : Listing} {text a
       }
 
   -- or ends
-  pub filled_last : {m : Listing} {capacity : ℕ} → Stepped bundle (state_at p l) text (standing q (Break m)) after
-      → PartPut bundle given capacity (standing q (Break m)) after
-  filled_last {m} stepped = record { lines = left_more (Break m) stepped; full = tt; further = tt; placed = stepped.placed }
+  pub filled_last : {m : Listing} → Stepped bundle (state_at p l) now (standing q (Break m)) after
+      → PartPut bundle given text (standing q (Break m)) after
+  filled_last {m} stepped =
+      let put = put_more (Break m) stepped in
+      let part = part_lines text put in
+      record { put = rw part put; lines = rw part (left_more (Break m) stepped); full = tt; further = tt; placed = stepped.placed }
 
 -- or no room is left for one more
-pub filled : {bundle : List ℕ} {given : State} {p : Panel} {l : Listing} {text : List ℕ} {capacity : ℕ} → Filling bundle given p l text
-    → capacity < length text + step_room
-    → PartPut bundle given capacity (standing p (Continue l)) text
-filled filling full = record { lines = filling.left; full = full; further = λ room. filling.further (omega (arith, full)); placed = filling.placed }
+pub filled : {bundle : List ℕ} {given : State} {text : Text} {p : Panel} {l : Listing} {now : Text} → Filling bundle given text p l now
+    → length text.buffer.now < now.at + step_room
+    → PartPut bundle given text (standing p (Continue l)) now
+filled {text = text} filling full =
+    let part = part_lines text filling.put in
+    record {
+      put = rw part filling.put;
+      lines = rw part filling.left;
+      full = full;
+      further = λ room. filling.further (omega (arith, full));
+      placed = filling.placed;
+    }

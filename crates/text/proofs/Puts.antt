@@ -1,14 +1,15 @@
 -- Text put into a buffer, piece after piece.
-use mathlib.Core.Path.{refl, sym, ap, ◌∙◌}
+use mathlib.Core.Path.{◌≡◌, refl, sym, ap, ◌∙◌}
 use mathlib.Core.List.{List, [], ◌∷◌, ◌++◌}
 use Prim.Native.Nat.{ℕ, ◌+◌, ◌≤◌, ◌<◌}
 use native.Mathlib.Nat.{add-zero}
 use native.Mathlib.Omega.{arith}
-use lib.ListN.{length, set, length-append, length-set}
-use lib.Seq.{paste, paste-zero, paste-suc}
+use lib.ListN.{length, set, take, drop, length-append, length-set}
+use lib.Seq.{paste, paste-zero, paste-suc, take_at, length-take-le}
 use Rattle.numbers.specs.Buffer.{over}
 use Rattle.numbers.proofs.Over.{over-nil, over-over, over_paste, length_over}
-use Rattle.text.specs.Put.{Room, Put}
+use Rattle.text.specs.declared.Text.{Text}
+use Rattle.text.specs.Put.{Room, Put, PutBehind}
 
 -- nothing is put
 pub put_nil : (buffer : List ℕ) (at : ℕ) → Put buffer at [] buffer at
@@ -53,3 +54,23 @@ pub put_short : {buffer : List ℕ} {at : ℕ} {text after : List ℕ} {behind :
     → Put after behind more last end × (end ≤ behind + most)
     → Put buffer at (text ++ more) last end × (end ≤ at + (few + most))
 put_short few most within put next = (put_put within put.0 next.0, omega (arith, put.1, next.1))
+
+-- ---- of a text
+
+-- nothing is put
+pub put_none : (t : Text) → PutBehind t [] t
+put_none t = record { put = put_nil t.buffer.now t.at; same = refl }
+
+-- more is put behind it
+pub put_behind : {t u v : Text} {text more : List ℕ} → t.at ≤ length t.buffer.now → PutBehind t text u → PutBehind u more v
+    → PutBehind t (text ++ more) v
+put_behind within before next = record { put = put_put within before.put next.put; same = next.same ∙ before.same }
+
+-- what stands before its end then: what stood there, and that
+pub bytes_behind : {t u : Text} {text : List ℕ} → t.at ≤ length t.buffer.now → PutBehind t text u
+    → take u.at u.buffer.now ≡ take t.at t.buffer.now ++ text
+unfolding over
+bytes_behind {t} {u} {text} within behind =
+    let front : length (take t.at t.buffer.now ++ text) ≡ u.at =
+    rw length-append (omega (arith, behind.put.place, length-take-le t.at t.buffer.now within)) in
+    ap (take u.at) behind.put.bytes ∙ take_at (take t.at t.buffer.now ++ text) (drop (t.at + length text) t.buffer.now) u.at front

@@ -1,10 +1,18 @@
 -- `listing_parts::list_part` meets its contract: after each step the lines so far are put. Assumes nothing.
-use Rattle.std.proofs.Common.{rules}
-use Rattle.listing_parts.proofs.Filling.{filling_step, filled_last}
+use Rattle.std.proofs.Common.{rules, arith}
+use Rattle.listing_parts.proofs.Filling.{filling_none, filling_step, filled_last, filled}
 use Rattle.listing_parts.proofs.list_part.Goals as goal
 
+pub steps-init : goal.steps-init
+steps-init c = (filling_none {l = c.args.listing} c.args.text.now c.requires, search rules)
+
 pub returns-in_err-listing-clause-put : goal.returns-in_err-listing-clause-put
-returns-in_err-listing-clause-put g c = rw c.from_residual.ensures (filled_last c.steps.invariant.0 c.in_err-listing.ensures.stepped)
+returns-in_err-listing-clause-put c = rw c.from_residual.ensures (filled_last c.steps.invariant.0 c.in_err-listing.ensures.stepped)
 
 pub steps-preserved : goal.steps-preserved
-steps-preserved g c = (filling_step c.steps.invariant.0 c.in_ok-listing.ensures.stepped, search rules)
+steps-preserved c = (filling_step c.steps.invariant.0 (omega arith) c.in_ok-listing.ensures.stepped, search rules)
+
+pub returns-clause-put : goal.returns-clause-put
+returns-clause-put c =
+    let filling = c.steps.invariant.0 in
+    filled filling (omega (arith, c.steps-test.false, filling.put.put.kept))

@@ -5,10 +5,10 @@ use Rattle.listing_parts.proofs.Filling.{Filling}
 use Rattle.listing_parts.proofs.list_part.Given as goal
 
 abbrev pub invariant-steps : goal.invariant-steps
-invariant-steps g l =
-    Filling l.bundle (state_at (record_of (parts_of l.initial.state l.initial.list)) l.initial.listing)
-    (record_of (parts_of l.state l.list)) l.listing l.text.bytes
+invariant-steps l =
+    Filling l.bundle (state_at (record_of (parts_of l.initial.state l.initial.list)) l.initial.listing) l.fn.text
+    (record_of (parts_of l.state l.list)) l.listing l.text
     × (SameState l.initial.state l.state × SameWaiting l.initial.list l.list)
 
 abbrev pub decreases-steps : goal.decreases-steps
-decreases-steps g l = length l.bundle - l.listing.place
+decreases-steps l = length l.bundle - l.listing.place

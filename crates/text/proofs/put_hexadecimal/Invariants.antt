@@ -1,7 +1,10 @@
-use Rattle.std.proofs.Common.{◌≡◌, ◌≤◌, ◌++◌, length, take}
+use Rattle.std.proofs.Common.{◌≡◌, ◌+◌, ◌*◌, ◌≤◌, length, take}
 use Rattle.text.specs.Text.{hexadecimal}
+use Rattle.text.specs.Put.{PutBehind}
 use Rattle.text.proofs.put_hexadecimal.Given as goal
 
 abbrev pub invariant-loop-byte : goal.invariant-loop-byte
-invariant-loop-byte g l =
-    (l.byte-index ≤ length l.bytes) × (l.text.bytes ≡ l.initial.text.bytes ++ hexadecimal (take l.byte-index l.bytes))
+invariant-loop-byte l =
+    (l.byte-index ≤ length l.bytes)
+    × PutBehind l.initial.text (hexadecimal (take l.byte-index l.bytes)) l.text
+    × (l.text.at ≡ l.initial.text.at + 2 * l.byte-index)

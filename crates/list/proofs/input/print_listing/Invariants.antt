@@ -1,3 +1,4 @@
+use Rattle.std.proofs.Common.{◌≡◌, length}
 use Rattle.lent.specs.Record.{parts_of, record_of}
 use Rattle.listing.specs.Step.{standing}
 use Rattle.list.proofs.Printing.{Printing, bytes_left}
@@ -7,6 +8,7 @@ abbrev pub invariant-loop-next : goal.invariant-loop-next
 invariant-loop-next g l =
     Printing l.input (g.W.Write.contents l.initial.writer) (g.W.Write.contents l.writer)
     (standing (record_of (parts_of l.state l.list)) l.next) l.written
+    × (length l.text.buffer.now ≡ length l.initial.text.buffer.now)
 
 abbrev pub decreases-loop-next : goal.decreases-loop-next
 decreases-loop-next g l = bytes_left l.input l.next

@@ -1,2 +1,3 @@
 -- The laws of the lines.
 pub mod Lines
+pub mod Ascii

@@ -11,11 +11,11 @@ use Rattle.slots.specs.Slots.{slots_length, held, up_from}
 use Rattle.lent.specs.Record.{parts, record_of}
 use Rattle.listing.specs.declared.Listing.{Listing}
 use Rattle.listing.specs.Listing.{longest, listing}
-use Rattle.listing.specs.Step.{Standing, standing, state_at, state_of, step_room, Placed}
+use Rattle.listing.specs.Step.{Reached, reached, state_at, state_of, step_room, Placed}
 use Rattle.listing.proofs.Theorems.{long_listing}
-use Rattle.listing_parts.specs.Part.{lines_left, part_in, PartPut, PartsPut}
-use Rattle.listing_parts.specs.Part.PartsPut.{no_part, one_more}
-use Rattle.listing_parts.proofs.Theorems.{part_in_listing, parts-left}
+use Rattle.listing_parts.specs.Part.{left_of, part_in, PartPutLent, PartsPutLent}
+use Rattle.listing_parts.specs.Part.PartsPutLent.{no_part, one_more}
+use Rattle.listing_parts.proofs.Theorems.{part_in_listing_lent, parts-left_lent}
 use Rattle.list.specs.Written.{BytesAt, AppendsSome}
 
 -- where a part is not written whole, the writer has got the first bytes of the whole
@@ -34,9 +34,9 @@ some_more before after last parts part rest whole e got (m, put) =
 
 -- so many bytes are written, those of the parts put so far, of which the writer holds each, and no more than 16,384 for each byte of the bundle
 -- that is passed
-pub record Printing (input : List ℕ) (before after : Option (List ℕ)) (s : Standing) (written : ℕ) : Type 0 where
+pub record Printing (input : List ℕ) (before after : Option (List ℕ)) (s : Reached) (written : ℕ) : Type 0 where
   pub parts : List ℕ
-  pub put : PartsPut input parts s
+  pub put : PartsPutLent input parts s
   pub count : written ≡ length parts
   pub got : Appends before after parts
   pub few : IfSome (continue_value s.next) (λ l. written ≤ 16384 * l.place)
@@ -49,8 +49,8 @@ bytes_left input (Continue l) = suc (length input - l.place)
 
 -- the next part, of at most 16,384 bytes: its length, that it stands in the listing at its place, and what is written then
 module _ {input : List ℕ} {before after : Option (List ℕ)} {p : Panel} {l : Listing} {written : ℕ}
-    (printing : Printing input before after (standing p (Continue l)) written) (short : length input ≤ longest)
-    {q : Panel} {next : ControlFlow Listing Listing} {text filled : Text} (put : PartPut input (state_at p l) text (standing q next) filled) where
+    (printing : Printing input before after (reached p (Continue l)) written) (short : length input ≤ longest)
+    {q : Panel} {next : ControlFlow Listing Listing} {text filled : Text} (put : PartPutLent input (state_at p l) text (reached q next) filled) where
   part_length : filled.at ≡ length (part_in filled)
   part_length = omega (arith, put.put.put.place)
 
@@ -65,13 +65,13 @@ module _ {input : List ℕ} {before after : Option (List ℕ)} {p : Panel} {l : 
   pub part-there : length (part_in filled) ≤ 16384 → BytesAt (listing input) written (part_in filled)
   part-there room =
       record {
-        bytes = rw printing.count (part_in_listing short printing.put put);
+        bytes = rw printing.count (part_in_listing_lent short printing.put put);
         small = omega (arith, room, printing.few, printing.placed.within);
       }
 
   pub printing-next : {last : Option (List ℕ)} → step_room ≤ length text.buffer.now → length (part_in filled) ≤ 16384
       → Appends after last (part_in filled)
-      → Printing input before last (standing q next) (written + length (part_in filled))
+      → Printing input before last (reached q next) (written + length (part_in filled))
   printing-next enough room got =
       record {
         parts = printing.parts ++ part_in filled;
@@ -90,8 +90,8 @@ module _ {input : List ℕ} {before after : Option (List ℕ)} {p : Panel} {l : 
   -- if it is not written whole
   pub printing_failed : (last : Option (List ℕ)) → AppendsSome after last (part_in filled) → AppendsSome before last (listing input)
   printing_failed last =
-      some_more before after last printing.parts (part_in filled) (lines_left input (standing q next)) (listing input)
-      (ap (λ (rest : List ℕ). printing.parts ++ rest) (sym put.lines) ∙ parts-left short printing.put) printing.got
+      some_more before after last printing.parts (part_in filled) (left_of input (reached q next)) (listing input)
+      (ap (λ (rest : List ℕ). printing.parts ++ rest) (sym put.lines) ∙ parts-left_lent short printing.put) printing.got
 
 -- of a longer input only `long`
 pub long-there : (input : List ℕ) → longest < length input → BytesAt (listing input) 0 (ascii "long\n")
@@ -120,7 +120,7 @@ on_err (Err e) holds = holds
 -- nothing yet: the panel is a fresh one, with 0 in each part
 pub printing-none : {input : List ℕ} {before : Option (List ℕ)} {l : Listing} → (l.place ≡ 0) × (l.frames ≡ 0)
     → Printing input before before
-    (standing (record_of (parts 0 0 0 0 (replicate 64 0) (replicate 64 0) (replicate slots_length 0) 0)) (Continue l)) 0
+    (reached (record_of (parts 0 0 0 0 (replicate 64 0) (replicate 64 0) (replicate slots_length 0) 0)) (Continue l)) 0
 unfolding held fresh up_from none64
 printing-none {before = before} begun =
     record {

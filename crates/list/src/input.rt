@@ -8,7 +8,7 @@ ghost use Rattle.list.specs.Written.{BytesAt, AppendsSome};
 
 use lent::{State, Waiting};
 use listing::start;
-use listing_parts::list_part;
+use listing_parts::list_part_lent;
 use slots::SLOTS;
 use std::io;
 use std::io::{ErrorKind, Read, Write};
@@ -83,7 +83,7 @@ fn print_listing<W: Write>(writer: &mut W, input: &[u8]) -> io::Result<usize>
     let mut next = ControlFlow::Continue(start());
     let mut written = 0;
     while let ControlFlow::Continue(listing) = next {
-        next = list_part(&mut state, &mut list, input, listing, &mut text);
+        next = list_part_lent(&mut state, &mut list, input, listing, &mut text);
         written = write_part(writer, input, written, text.as_bytes())?;
     }
     Ok(written)

@@ -1,11 +1,14 @@
 -- A step of the listing, one law for each way that it ends. Assumes nothing.
-use mathlib.Core.Path.{◌≡◌, refl, sym, ap}
+use mathlib.Core.Path.{◌≡◌, refl, sym, ap, ◌∙◌}
 use mathlib.Core.Bool.{false}
-use mathlib.Core.List.{List, []}
+use mathlib.Core.List.{List, [], ◌++◌}
 use Prim.Native.Nat.{ℕ, ◌+◌, ◌*◌, ◌≤◌}
 use native.Mathlib.Omega.{arith}
-use lib.ListN.{length, replicate}
-use Rattle.std.proofs.Common.{Continue, Break}
+use lib.ListN.{length, length-append, replicate, take}
+use Rattle.std.specs.Prelude.{IsAscii}
+use Rattle.std.specs.ControlFlow.{continue_value}
+use Rattle.std.proofs.Common.{ControlFlow, Continue, Break}
+use Rattle.std.proofs.lemmas.Str.{IsAscii-append}
 use Rattle.bundle.specs.declared.Step.TheVariants.{Frame, End, Broken}
 use Rattle.bundle.specs.Bundle.{step_at, frame_at}
 use Rattle.bundle.proofs.Steps.{step_found}
@@ -18,12 +21,14 @@ use Rattle.parts.specs.Record.{answered}
 use Rattle.text.specs.declared.Text.{Text}
 use Rattle.text.specs.Text.{ascii}
 use Rattle.text.specs.Put.{RoomBehind, PutBehind}
-use Rattle.text.proofs.Puts.{put_behind}
+use Rattle.text.proofs.Puts.{put_behind, bytes_alone}
+use Rattle.text.proofs.Ascii.{IsAscii-nil, IsAscii-words}
 use Rattle.lines.specs.Lines.{frame_line, hand_lines}
 use Rattle.lines.proofs.Lines.{no_lines}
+use Rattle.lines.proofs.Ascii.{IsAscii-frame_line}
 use Rattle.listing.specs.declared.Listing.{Listing}
-use Rattle.listing.specs.Listing.{lines_of, lines_at, onward, state_after, goes_on, received}
-use Rattle.listing.specs.Step.{standing, state_at, step_room, Placed, Stepped}
+use Rattle.listing.specs.Listing.{State, lines_of, lines_at, onward, state_after, goes_on, received}
+use Rattle.listing.specs.Step.{reached, standing, state_at, step_room, Placed, Stepped, SteppedLent}
 
 -- the frame at the listing's place was received, as promised
 module _ (bundle : List ℕ) (before : Panel) (given : Listing) {start size next : ℕ} (frame : step_at bundle given.place ≡ Frame start size next)
@@ -47,6 +52,16 @@ module _ (bundle : List ℕ) (before : Panel) (given : Listing) {start size next
   unfolding state_after
   frame_state = rw (frame, ← result)
 
+  -- its line is ASCII, and so are those of the log records
+  pub frame_ascii : IsAscii (hand_lines answer.count output) → IsAscii (lines_at bundle (state_at before given))
+  frame_ascii lines =
+      rw frame_lines
+      (IsAscii-append (frame_line (given.frames + 1) answer.number) _ (IsAscii-frame_line (given.frames + 1) answer.number) lines)
+
+  pub refused_ascii : answer.count ≡ 0 → IsAscii (lines_at bundle (state_at before given))
+  unfolding hand_lines
+  refused_ascii none = frame_ascii (rw none IsAscii-nil)
+
   -- its line is put, and those of the log records
   pub taken_stepped : {text first last : Text} → Placed bundle given.place given.frames
       → RoomBehind text step_room
@@ -54,7 +69,7 @@ module _ (bundle : List ℕ) (before : Panel) (given : Listing) {start size next
       → first.at ≤ text.at + 48
       → PutBehind first (hand_lines answer.count output) last
       → last.at ≤ first.at + answer.count * 112
-      → Stepped bundle (state_at before given) text (standing after (Continue (record { place = next; frames = given.frames + 1 }))) last
+      → SteppedLent bundle (state_at before given) text (reached after (Continue (record { place = next; frames = given.frames + 1 }))) last
   taken_stepped placed room line line_short lines lines_short =
       let few = few_handed in
       let found = step_found bundle given.place start size next frame in
@@ -72,9 +87,19 @@ module _ (bundle : List ℕ) (before : Panel) (given : Listing) {start size next
       → RoomBehind text step_room
       → PutBehind text (frame_line (given.frames + 1) answer.number) last
       → last.at ≤ text.at + 48
-      → Stepped bundle (state_at before given) text (standing after (Continue (record { place = next; frames = given.frames + 1 }))) last
+      → SteppedLent bundle (state_at before given) text (reached after (Continue (record { place = next; frames = given.frames + 1 }))) last
   refused_stepped {last = last} placed none room line line_short =
       taken_stepped placed room line line_short (rw none (no_lines last output)) (omega (arith, none))
+
+-- the last line is ASCII
+module _ (bundle : List ℕ) (before : Panel) (given : Listing) where
+  pub end_ascii : step_at bundle given.place ≡ End → IsAscii (lines_at bundle (state_at before given))
+  unfolding lines_at ascii
+  end_ascii end = rw end (IsAscii-words (ascii "end\n") refl)
+
+  pub broken_ascii : step_at bundle given.place ≡ Broken → IsAscii (lines_at bundle (state_at before given))
+  unfolding lines_at ascii
+  broken_ascii broken = rw broken (IsAscii-words (ascii "broken\n") refl)
 
 -- the last line was put
 module _ {bundle : List ℕ} {before : Panel} {given : Listing} {text after : Text} where
@@ -84,7 +109,7 @@ module _ {bundle : List ℕ} {before : Panel} {given : Listing} {text after : Te
       → goes_on (step_at bundle given.place) ≡ false
       → length line ≤ step_room
       → PutBehind text line after
-      → Stepped bundle (state_at before given) text (standing before (Break given)) after
+      → SteppedLent bundle (state_at before given) text (reached before (Break given)) after
   last_stepped line placed line-is stays over short put =
       record {
         lines = rw line-is put;
@@ -96,11 +121,40 @@ module _ {bundle : List ℕ} {before : Panel} {given : Listing} {text after : Te
       }
 
   pub end_stepped : Placed bundle given.place given.frames → step_at bundle given.place ≡ End → PutBehind text (ascii "end\n") after
-      → Stepped bundle (state_at before given) text (standing before (Break given)) after
+      → SteppedLent bundle (state_at before given) text (reached before (Break given)) after
   unfolding lines_at state_after ascii
   end_stepped placed end = last_stepped (ascii "end\n") placed (rw end refl) (rw end refl) (rw end refl) (omega arith)
 
   pub broken_stepped : Placed bundle given.place given.frames → step_at bundle given.place ≡ Broken → PutBehind text (ascii "broken\n") after
-      → Stepped bundle (state_at before given) text (standing before (Break given)) after
+      → SteppedLent bundle (state_at before given) text (reached before (Break given)) after
   unfolding lines_at state_after ascii
   broken_stepped placed broken = last_stepped (ascii "broken\n") placed (rw broken refl) (rw broken refl) (rw broken refl) (omega arith)
+
+-- put behind nothing, and that behind a text of fixed capacity
+pub stepped_behind : {bundle : List ℕ} {given : State} {t u : Text} {p : Panel} (next : ControlFlow Listing Listing) {text after : List ℕ}
+    → t.at ≡ 0
+    → SteppedLent bundle given t (reached p next) u
+    → after ≡ text ++ take u.at u.buffer.now
+    → Stepped bundle given text (standing p (continue_value next)) after
+stepped_behind {bundle = bundle} {given = given} (Continue l) {text = text} {after = after} none stepped put =
+    let lines : after ≡ text ++ lines_at bundle given = put ∙ ap (λ (bytes : List ℕ). text ++ bytes) (bytes_alone none stepped.lines) in
+    record {
+      lines = lines;
+      panel = ap (λ (s : State). s.panel) stepped.state;
+      state = stepped.state;
+      more = stepped.more;
+      short = omega (arith, ap length lines, length-append text (lines_at bundle given), stepped.lines.put.place, stepped.short);
+      placed = stepped.placed;
+      further = stepped.further;
+    }
+stepped_behind {bundle = bundle} {given = given} (Break l) {text = text} {after = after} none stepped put =
+    let lines : after ≡ text ++ lines_at bundle given = put ∙ ap (λ (bytes : List ℕ). text ++ bytes) (bytes_alone none stepped.lines) in
+    record {
+      lines = lines;
+      panel = ap (λ (s : State). s.panel) stepped.state;
+      state = tt;
+      more = stepped.more;
+      short = omega (arith, ap length lines, length-append text (lines_at bundle given), stepped.lines.put.place, stepped.short);
+      placed = tt;
+      further = tt;
+    }

@@ -1,19 +1,23 @@
 // The listing of a bundle, step by step: each step receives one frame at a panel, in place, and puts its
-// lines. An internal crate. Precondition: a place in the bundle, and room for a step's lines.
+// lines behind a text in lent memory, or behind one of fixed capacity. An internal crate. Precondition: a
+// place in the bundle, and room for a step's lines.
 #![tactic(auto)]
 
-ghost use Rattle.std.specs.Prelude.{◌≡◌};
+ghost use Rattle.std.specs.Prelude.{◌≡◌, ◌+◌, ◌≤◌, IsAscii};
+ghost use Rattle.arrayvec.specs.ArrayString.{array_string_len};
 ghost use Rattle.lent.specs.Record.{parts_of, record_of, SameState, SameWaiting};
 ghost use Rattle.text.specs.Put.{RoomBehind};
-ghost use Rattle.listing.specs.Step.{step_room, standing, state_at, Placed, Stepped};
+ghost use Rattle.listing.specs.Listing.{lines_at};
+ghost use Rattle.listing.specs.Step.{step_room, reached, standing, state_at, Placed, Stepped, SteppedLent};
 
+use arrayvec::ArrayString;
 use bundle::{Step, part_at, step_at};
 use lent::{State, Waiting};
-use lines::{put_answer_line, put_hand_lines};
+use lines::{put_answer_line, put_hand_lines_lent};
 use parts::OUTPUT;
 use receiving::receive_in_place;
 use std::ops::ControlFlow;
-use text::{Text, put_words};
+use text::{Text, put_ascii, put_words};
 
 // The bytes that the longest lines of a step have room in.
 pub const STEP_ROOM: usize = 4096;
@@ -37,7 +41,7 @@ pub fn start() -> Listing
 
 // One step: puts the lines of the next frame and goes on, or puts the last line and ends. Either way it
 // gives where the listing then stands.
-pub fn list_next(
+pub fn list_next_lent(
     state: &mut State,
     list: &mut Waiting,
     bundle: &[u8],
@@ -46,8 +50,9 @@ pub fn list_next(
 ) -> ControlFlow<Listing, Listing>
     requires { Placed bundle.now listing.place listing.frames × RoomBehind text.old step_room }
     ensures same { SameState state.old state.new × SameWaiting list.old list.new }
-    ensures stepped { Stepped bundle.now (state_at (record_of (parts_of state.old list.old)) listing) text.old
-        (standing (record_of (parts_of state.new list.new)) result) text.new }
+    ensures stepped { SteppedLent bundle.now (state_at (record_of (parts_of state.old list.old)) listing) text.old
+        (reached (record_of (parts_of state.new list.new)) result) text.new }
+    ensures ascii { IsAscii (lines_at bundle.now (state_at (record_of (parts_of state.old list.old)) listing)) }
 {
     match step_at(bundle, listing.place) {
         Step::Frame {
@@ -60,7 +65,7 @@ pub fn list_next(
             let frames = listing.frames + 1;
             put_answer_line(text, frames as u64, answer.err());
             if let Ok(accepted) = answer {
-                put_hand_lines(text, &output, accepted.count);
+                put_hand_lines_lent(text, &output, accepted.count);
             }
             ControlFlow::Continue(Listing {
                 place: next,
@@ -76,4 +81,27 @@ pub fn list_next(
             ControlFlow::Break(listing)
         }
     }
+}
+
+// One step, behind a text of fixed capacity: puts the lines of the next frame and gives where the listing
+// then stands, or puts the last line and gives none.
+pub fn list_next<const CAP: usize>(
+    state: &mut State,
+    list: &mut Waiting,
+    bundle: &[u8],
+    listing: Listing,
+    text: &mut ArrayString<CAP>,
+) -> Option<Listing>
+    requires { Placed bundle.now listing.place listing.frames × (array_string_len text.old + step_room ≤ CAP) }
+    ensures same { SameState state.old state.new × SameWaiting list.old list.new }
+    ensures stepped { Stepped bundle.now (state_at (record_of (parts_of state.old list.old)) listing) text.old.bytes
+        (standing (record_of (parts_of state.new list.new)) result) text.new.bytes }
+{
+    let mut lines = Text {
+        buffer: &mut [0u8; STEP_ROOM],
+        at: 0,
+    };
+    let next = list_next_lent(state, list, bundle, listing, &mut lines);
+    put_ascii(text, lines.as_bytes());
+    next.continue_value()
 }

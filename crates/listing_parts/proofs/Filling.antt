@@ -6,6 +6,9 @@ use Prim.Native.Nat.{ℕ, suc, ◌+◌, ◌≤◌, ◌<◌}
 use native.Mathlib.Omega.{arith}
 use lib.ListN.{length, take}
 use Rattle.std.proofs.Common.{ControlFlow, Continue, Break}
+use Rattle.std.specs.Prelude.{IsAscii}
+use Rattle.std.specs.ControlFlow.{continue_value}
+use Rattle.std.proofs.lemmas.Str.{IsAscii-append}
 use Rattle.numbers.proofs.Over.{take-over}
 use Rattle.rules.specs.Panel.{Panel}
 use Rattle.text.specs.declared.Text.{Text}
@@ -13,14 +16,14 @@ use Rattle.text.specs.Put.{PutBehind}
 use Rattle.text.proofs.Puts.{put_none, put_behind}
 use Rattle.listing.specs.declared.Listing.{Listing}
 use Rattle.listing.specs.Listing.{State, lines_at, state_after, lines_from}
-use Rattle.listing.specs.Step.{standing, state_at, step_room, Placed, Stepped}
-use Rattle.listing_parts.specs.Part.{left_from, part_in, at_start, PartPut}
+use Rattle.listing.specs.Step.{reached, standing, state_at, step_room, Placed, SteppedLent}
+use Rattle.listing_parts.specs.Part.{left_in, part_in, at_start, PartPut, PartPutLent}
 use Rattle.listing.proofs.Theorems.{lines_from_enough}
 
 -- before a step: its lines, and what is left after it
 module _ {bundle : List ℕ} {given : State} {text after : Text} {p : Panel} where
-  left_step : (next : ControlFlow Listing Listing) → Stepped bundle given text (standing p next) after
-      → lines_from (suc (length bundle)) bundle given ≡ lines_at bundle given ++ left_from bundle p next
+  left_step : (next : ControlFlow Listing Listing) → SteppedLent bundle given text (reached p next) after
+      → lines_from (suc (length bundle)) bundle given ≡ lines_at bundle given ++ left_in bundle p next
   unfolding lines_from
   left_step (Break l) stepped =
       ap (λ (b : Bool). lines_at bundle given ++ cond b (lines_from (length bundle) bundle (state_after bundle given)) []) (sym stepped.more)
@@ -64,19 +67,28 @@ part_lines text {after} {lines} put =
 
 module _ {bundle : List ℕ} {given : State} {text : Text} {p q : Panel} {l : Listing} {now after : Text} (filling : Filling bundle given text p l now) where
   -- what was left is the lines so far, those of one step more, and what is left then
-  left_more : (next : ControlFlow Listing Listing) → Stepped bundle (state_at p l) now (standing q next) after
-      → lines_from (suc (length bundle)) bundle given ≡ (filling.lines ++ lines_at bundle (state_at p l)) ++ left_from bundle q next
+  left_more : (next : ControlFlow Listing Listing) → SteppedLent bundle (state_at p l) now (reached q next) after
+      → lines_from (suc (length bundle)) bundle given ≡ (filling.lines ++ lines_at bundle (state_at p l)) ++ left_in bundle q next
   left_more next stepped =
       filling.left
       ∙ ap (λ (rest : List ℕ). filling.lines ++ rest) (left_step next stepped)
-      ∙ sym (append_assoc filling.lines (lines_at bundle (state_at p l)) (left_from bundle q next))
+      ∙ sym (append_assoc filling.lines (lines_at bundle (state_at p l)) (left_in bundle q next))
 
-  put_more : (next : ControlFlow Listing Listing) → Stepped bundle (state_at p l) now (standing q next) after
+  put_more : (next : ControlFlow Listing Listing) → SteppedLent bundle (state_at p l) now (reached q next) after
       → PutBehind (at_start text) (filling.lines ++ lines_at bundle (state_at p l)) after
   put_more next stepped = put_behind (omega arith) filling.put stepped.lines
 
+  -- the part is ASCII then, if it was and its lines are
+  pub part_ascii : (next : ControlFlow Listing Listing) → SteppedLent bundle (state_at p l) now (reached q next) after
+      → IsAscii (part_in now)
+      → IsAscii (lines_at bundle (state_at p l))
+      → IsAscii (part_in after)
+  part_ascii next stepped part lines =
+      rw (part_lines text (put_more next stepped))
+      (IsAscii-append filling.lines (lines_at bundle (state_at p l)) (rw (sym (part_lines text filling.put)) part) lines)
+
   -- the listing goes on after it
-  pub filling_step : {m : Listing} → now.at + step_room ≤ length text.buffer.now → Stepped bundle (state_at p l) now (standing q (Continue m)) after
+  pub filling_step : {m : Listing} → now.at + step_room ≤ length text.buffer.now → SteppedLent bundle (state_at p l) now (reached q (Continue m)) after
       → Filling bundle given text q m after
   filling_step {m} room stepped =
       record {
@@ -90,8 +102,8 @@ module _ {bundle : List ℕ} {given : State} {text : Text} {p q : Panel} {l : Li
       }
 
   -- or ends
-  pub filled_last : {m : Listing} → Stepped bundle (state_at p l) now (standing q (Break m)) after
-      → PartPut bundle given text (standing q (Break m)) after
+  pub filled_last : {m : Listing} → SteppedLent bundle (state_at p l) now (reached q (Break m)) after
+      → PartPutLent bundle given text (reached q (Break m)) after
   filled_last {m} stepped =
       let put = put_more (Break m) stepped in
       let part = part_lines text put in
@@ -100,7 +112,7 @@ module _ {bundle : List ℕ} {given : State} {text : Text} {p q : Panel} {l : Li
 -- or no room is left for one more
 pub filled : {bundle : List ℕ} {given : State} {text : Text} {p : Panel} {l : Listing} {now : Text} → Filling bundle given text p l now
     → length text.buffer.now < now.at + step_room
-    → PartPut bundle given text (standing p (Continue l)) now
+    → PartPutLent bundle given text (reached p (Continue l)) now
 filled {text = text} filling full =
     let part = part_lines text filling.put in
     record {
@@ -110,3 +122,18 @@ filled {text = text} filling full =
       further = λ room. filling.further (omega (arith, full));
       placed = filling.placed;
     }
+
+-- ---- as a part of a text of fixed capacity
+
+pub part_behind : {bundle : List ℕ} {given : State} {text after : Text} {p : Panel} {capacity : ℕ} (next : ControlFlow Listing Listing)
+    → length text.buffer.now ≡ capacity
+    → PartPutLent bundle given text (reached p next) after
+    → PartPut bundle given capacity (standing p (continue_value next)) (part_in after)
+part_behind (Continue l) size put =
+    record {
+      lines = put.lines;
+      full = omega (arith, size, put.full, put.put.put.place);
+      further = λ room. put.further (omega (arith, size, room));
+      placed = put.placed;
+    }
+part_behind (Break l) size put = record { lines = put.lines; full = tt; further = tt; placed = tt }

@@ -1,12 +1,14 @@
-// Text put into a lent buffer: words, decimal and hexadecimal numbers, each behind what was put before.
-// An internal crate. Precondition: room in the buffer.
+// Text put into a lent buffer: words, decimal and hexadecimal numbers, each behind what was put before;
+// and numbers put behind a text of fixed capacity. An internal crate. Precondition: room.
 #![tactic(auto)]
 
-ghost use Rattle.std.specs.Prelude.{◌≡◌, ◌∷◌, [], ◌++◌, ◌+◌, ◌*◌, ◌<◌, ◌≤◌, length, take};
+ghost use Rattle.std.specs.Prelude.{◌≡◌, ◌∷◌, [], ◌++◌, ◌+◌, ◌*◌, ◌<◌, ◌≤◌, length, take, IsAscii};
+ghost use Rattle.arrayvec.specs.ArrayString.{array_string_len};
 ghost use Rattle.text.specs.Text.{ascii, decimal, hexadecimal};
 ghost use Rattle.text.specs.Text.{digit as digitOf};
 ghost use Rattle.text.specs.Put.{RoomBehind, PutBehind};
 
+use arrayvec::ArrayString;
 use numbers::put_bytes;
 
 // A lent buffer, of any length, and the place behind what was put into it so far. Whoever lends a buffer
@@ -58,7 +60,7 @@ fn digit(number: u8) -> u8
 // Puts a number in decimal. By `itoa`, as `write!` gives a Result and nothing says when it is Ok: the
 // functions here always put their text.
 #[tactic(auto, using(crate::proofs::Decimal::decimal_printed))]
-pub fn put_decimal(text: &mut Text, number: u64)
+pub fn put_decimal_lent(text: &mut Text, number: u64)
     requires { RoomBehind text.old 20 }
     ensures bytes { PutBehind text.old (decimal number) text.new }
     ensures short { text.new.at ≤ text.old.at + 20 }
@@ -72,7 +74,7 @@ pub fn put_item(text: &mut Text, number: u64, character: u8)
     ensures bytes { PutBehind text.old (decimal number ++ (character ∷ [])) text.new }
     ensures short { text.new.at ≤ text.old.at + 21 }
 {
-    put_decimal(text, number);
+    put_decimal_lent(text, number);
     put_byte(text, character);
 }
 
@@ -87,7 +89,7 @@ pub fn put_start(text: &mut Text, words: &[u8], number: u64)
 }
 
 // Puts bytes in hexadecimal.
-pub fn put_hexadecimal(text: &mut Text, bytes: &[u8])
+pub fn put_hexadecimal_lent(text: &mut Text, bytes: &[u8])
     requires { RoomBehind text.old (2 * length bytes.now) }
     ensures bytes { PutBehind text.old (hexadecimal bytes.now) text.new }
     ensures digits { text.new.at ≡ text.old.at + 2 * length bytes.now }
@@ -96,4 +98,42 @@ pub fn put_hexadecimal(text: &mut Text, bytes: &[u8])
         put_byte(text, digit(*byte / 16));
         put_byte(text, digit(*byte % 16));
     }
+}
+
+// ---- behind a text of fixed capacity
+
+// Puts bytes that are ASCII.
+pub fn put_ascii<const CAP: usize>(text: &mut ArrayString<CAP>, bytes: &[u8])
+    requires { IsAscii bytes.now × (array_string_len text.old + length bytes.now ≤ CAP) }
+    ensures { text.new.bytes ≡ text.old.bytes ++ bytes.now }
+{
+    text.push_str(str::from_utf8(bytes).unwrap());
+}
+
+// Puts a number in decimal.
+pub fn put_decimal<const CAP: usize>(text: &mut ArrayString<CAP>, number: u64)
+    requires { array_string_len text.old + 20 ≤ CAP }
+    ensures bytes { text.new.bytes ≡ text.old.bytes ++ decimal number }
+    ensures short { array_string_len text.new ≤ array_string_len text.old + 20 }
+{
+    let mut digits = Text {
+        buffer: &mut [0u8; 20],
+        at: 0,
+    };
+    put_decimal_lent(&mut digits, number);
+    put_ascii(text, digits.as_bytes());
+}
+
+// Puts bytes in hexadecimal.
+pub fn put_hexadecimal<const CAP: usize>(text: &mut ArrayString<CAP>, bytes: &[u8])
+    requires { array_string_len text.old + 2 * length bytes.now ≤ CAP }
+    ensures bytes { text.new.bytes ≡ text.old.bytes ++ hexadecimal bytes.now }
+    ensures digits { array_string_len text.new ≡ array_string_len text.old + 2 * length bytes.now }
+{
+    let mut digits = Text {
+        buffer: &mut [0u8; CAP],
+        at: 0,
+    };
+    put_hexadecimal_lent(&mut digits, bytes);
+    put_ascii(text, digits.as_bytes());
 }

@@ -1,13 +1,15 @@
--- `lines::put_hand_lines` meets its contract: after i turns the lines of the first i log records are put. Assumes nothing.
-use Rattle.std.proofs.Common.{arith}
-use Rattle.lines.proofs.Lines.{no_lines, next_line}
+-- `lines::put_hand_lines` meets its contract: the lines put into a buffer of its own are put. Assumes nothing.
+use Rattle.std.proofs.Common.{rules, arith, refl, ap, ◌∙◌, length}
+use Rattle.text.proofs.Puts.{bytes_alone}
 use Rattle.lines.proofs.put_hand_lines.Goals as goal
 
-pub loop-index-init : goal.loop-index-init
-loop-index-init c = (no_lines _ _, omega arith)
+pub put_ascii-requires : goal.put_ascii-requires
+put_ascii-requires g c =
+    let lines = c.put_hand_lines_lent.ensures in
+    let alone = c.as_bytes.ensures ∙ bytes_alone refl lines.bytes in (
+      search rules,
+      (rw alone lines.ascii, omega (arith, c.requires, ap length alone, lines.bytes.put.place, lines.short)),
+    )
 
-pub loop-index-preserved : goal.loop-index-preserved
-loop-index-preserved c =
-    let l = c.loop-index in
-    let line = c.put_hand_line.ensures in
-    (next_line _ _ (omega (arith, c.requires)) l.invariant.0 line.bytes, omega (arith, l.invariant.1, line.short))
+pub returns-clause-bytes : goal.returns-clause-bytes
+returns-clause-bytes g c = rw (c.put_ascii.ensures, c.as_bytes.ensures ∙ bytes_alone refl c.put_hand_lines_lent.ensures.bytes) refl

@@ -1,27 +1,18 @@
--- `text::put_hexadecimal` meets its contract: after i turns the digits of the first i bytes are put. Assumes nothing.
-use Rattle.std.proofs.Common.{arith, rules}
-use Rattle.text.proofs.Hexadecimal.{hexadecimal_none, hexadecimal_more}
+-- `text::put_hexadecimal` meets its contract: the digits put into a buffer of its own are put. Assumes nothing.
+use Rattle.std.proofs.Common.{rules, arith, refl, ap, ◌∙◌, length}
+use Rattle.numbers.specs.Numbers.{Bytes}
+use Rattle.text.proofs.Ascii.{IsAscii-hexadecimal}
+use Rattle.text.proofs.Puts.{bytes_alone}
 use Rattle.text.proofs.put_hexadecimal.Goals as goal
 
-pub loop-byte-init : goal.loop-byte-init
-loop-byte-init c = (omega arith, hexadecimal_none _, omega arith)
-
-pub put_byte-requires : goal.put_byte-requires
-put_byte-requires c = let l = c.loop-byte in omega (arith, c.requires, l.invariant.1.put.kept, l.invariant.2, c.loop-byte-test.true)
-
-pub put_byte-requires-in-loop-byte : goal.put_byte-requires-in-loop-byte
-put_byte-requires-in-loop-byte c =
-    let l = c.loop-byte in
-    let first = c.put_byte.ensures.put in
-    omega (arith, c.requires, l.invariant.1.put.kept, l.invariant.2, c.loop-byte-test.true, first.kept, first.place)
-
-pub loop-byte-preserved : goal.loop-byte-preserved
-loop-byte-preserved c =
-    let l = c.loop-byte in
-    let first = c.put_byte.ensures in
-    let last = c.put_byte-in-loop-byte.ensures in (
+pub put_ascii-requires : goal.put_ascii-requires
+put_ascii-requires g c =
+    let are : Bytes c.args.bytes.now = λ i. omega (arith, c.type_inv.bytes i) in
+    let digits = c.put_hexadecimal_lent.ensures in
+    let alone = c.as_bytes.ensures ∙ bytes_alone refl digits.bytes in (
       search rules,
-      hexadecimal_more _ _ _ _ (omega (arith, c.loop-byte-test.true)) (omega (arith, c.requires)) c.digit.ensures c.digit-in-loop-byte.ensures
-          l.invariant.1 first last,
-      omega (arith, l.invariant.2, first.put.place, last.put.place),
+      (rw alone (IsAscii-hexadecimal c.args.bytes.now are), omega (arith, c.requires, ap length alone, digits.bytes.put.place, digits.digits)),
     )
+
+pub returns-clause-bytes : goal.returns-clause-bytes
+returns-clause-bytes g c = rw (c.put_ascii.ensures, c.as_bytes.ensures ∙ bytes_alone refl c.put_hexadecimal_lent.ensures.bytes) refl

@@ -4,4 +4,4 @@ use Rattle.text.proofs.Puts.{put_behind}
 use Rattle.text.proofs.put_item.Goals as goal
 
 pub returns-clause-bytes : goal.returns-clause-bytes
-returns-clause-bytes c = put_behind (omega (arith, c.requires)) c.put_decimal.ensures.bytes c.put_byte.ensures
+returns-clause-bytes c = put_behind (omega (arith, c.requires)) c.put_decimal_lent.ensures.bytes c.put_byte.ensures

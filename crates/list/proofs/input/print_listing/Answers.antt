@@ -2,7 +2,7 @@
 -- Assumes nothing.
 use Rattle.std.proofs.Common.{◌∙◌, refl, ap, length, arith}
 use Rattle.text.specs.Text.{ascii}
-use Rattle.listing_parts.proofs.Theorems.{parts_are_listing}
+use Rattle.listing_parts.proofs.Theorems.{parts_are_listing_lent}
 use Rattle.list.proofs.Printing.{part_room, part-there, printing-next, long-there, long-all, long-got, long_failed, on_err, printing_failed, printing-none}
 use Rattle.list.proofs.input.print_listing.Goals as goal
 
@@ -29,20 +29,20 @@ pub write_part-requires-in-Continue : goal.write_part-requires-in-Continue
 write_part-requires-in-Continue g c =
     let l = c.loop-next.invariant in
     let printing = rw c.in-Continue.is at l.0 in
-    let put = c.list_part-next.ensures.put in
+    let put = c.list_part_lent-next.ensures.put in
     rw c.as_bytes.ensures (part-there printing (omega arith) put (part_room printing (omega arith) put (omega (arith, l.1))))
 
 pub returns-in_err-written-clause-err : goal.returns-in_err-written-clause-err
 returns-in_err-written-clause-err g c =
     on_err _
-    (printing_failed (rw c.in-Continue.is at c.loop-next.invariant.0) (omega arith) c.list_part-next.ensures.put _
+    (printing_failed (rw c.in-Continue.is at c.loop-next.invariant.0) (omega arith) c.list_part_lent-next.ensures.put _
     (rw c.as_bytes.ensures at c.in_err-written.ensures.err))
 
 pub loop-next-preserved : goal.loop-next-preserved
 loop-next-preserved g c =
     let l = c.loop-next.invariant in
     let printing = rw c.in-Continue.is at l.0 in
-    let put = c.list_part-next.ensures.put in (
+    let put = c.list_part_lent-next.ensures.put in (
       rw (c.in_ok-written.ensures.place, c.as_bytes.ensures)
           (printing-next printing (omega arith) put (omega (arith, l.1)) (part_room printing (omega arith) put (omega (arith, l.1)))
           (rw c.as_bytes.ensures at c.in_ok-written.ensures.bytes)),
@@ -52,9 +52,9 @@ loop-next-preserved g c =
 pub returns-clause-all : goal.returns-clause-all
 returns-clause-all g c =
     let l = c.loop-next in
-    l.invariant.0.count ∙ ap length (parts_are_listing (omega arith) (rw c.in_default.is at l.invariant.0.put))
+    l.invariant.0.count ∙ ap length (parts_are_listing_lent (omega arith) (rw c.in_default.is at l.invariant.0.put))
 
 pub returns-clause-bytes : goal.returns-clause-bytes
 returns-clause-bytes g c =
     let l = c.loop-next in
-    rw (parts_are_listing (omega arith) (rw c.in_default.is at l.invariant.0.put)) at l.invariant.0.got
+    rw (parts_are_listing_lent (omega arith) (rw c.in_default.is at l.invariant.0.put)) at l.invariant.0.got

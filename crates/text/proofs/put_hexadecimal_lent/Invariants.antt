@@ -1,7 +1,7 @@
 use Rattle.std.proofs.Common.{◌≡◌, ◌+◌, ◌*◌, ◌≤◌, length, take}
 use Rattle.text.specs.Text.{hexadecimal}
 use Rattle.text.specs.Put.{PutBehind}
-use Rattle.text.proofs.put_hexadecimal.Given as goal
+use Rattle.text.proofs.put_hexadecimal_lent.Given as goal
 
 abbrev pub invariant-loop-byte : goal.invariant-loop-byte
 invariant-loop-byte l =

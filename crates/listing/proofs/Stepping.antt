@@ -5,7 +5,7 @@ use mathlib.Core.List.{List, [], ◌++◌}
 use Prim.Native.Nat.{ℕ, ◌+◌, ◌*◌, ◌≤◌}
 use native.Mathlib.Omega.{arith}
 use lib.ListN.{length, length-append, replicate, take}
-use Rattle.std.specs.Prelude.{IsAscii}
+use Rattle.std.specs.Prelude.{Option, IfSome, IsAscii}
 use Rattle.std.specs.ControlFlow.{continue_value}
 use Rattle.std.proofs.Common.{ControlFlow, Continue, Break}
 use Rattle.std.proofs.lemmas.Str.{IsAscii-append}
@@ -22,13 +22,13 @@ use Rattle.text.specs.declared.Text.{Text}
 use Rattle.text.specs.Text.{ascii}
 use Rattle.text.specs.Put.{RoomBehind, PutBehind}
 use Rattle.text.proofs.Puts.{put_behind, bytes_alone}
-use Rattle.text.proofs.Ascii.{IsAscii-nil, IsAscii-words}
+use Rattle.text.proofs.PlainText.{IsAscii-nil, IsAscii-words}
 use Rattle.lines.specs.Lines.{frame_line, hand_lines}
 use Rattle.lines.proofs.Lines.{no_lines}
-use Rattle.lines.proofs.Ascii.{IsAscii-frame_line}
+use Rattle.lines.proofs.PlainText.{IsAscii-frame_line}
 use Rattle.listing.specs.declared.Listing.{Listing}
 use Rattle.listing.specs.Listing.{State, lines_of, lines_at, onward, state_after, goes_on, received}
-use Rattle.listing.specs.Step.{reached, standing, state_at, step_room, Placed, Stepped, SteppedLent}
+use Rattle.listing.specs.Step.{reached, standing, state_at, state_in, step_room, Placed, Stepped, SteppedLent}
 
 -- the frame at the listing's place was received, as promised
 module _ (bundle : List ℕ) (before : Panel) (given : Listing) {start size next : ℕ} (frame : step_at bundle given.place ≡ Frame start size next)
@@ -130,31 +130,41 @@ module _ {bundle : List ℕ} {before : Panel} {given : Listing} {text after : Te
   unfolding lines_at state_after ascii
   broken_stepped placed broken = last_stepped (ascii "broken\n") placed (rw broken refl) (rw broken refl) (rw broken refl) (omega arith)
 
--- put behind nothing, and that behind a text of fixed capacity
-pub stepped_behind : {bundle : List ℕ} {given : State} {t u : Text} {p : Panel} (next : ControlFlow Listing Listing) {text after : List ℕ}
-    → t.at ≡ 0
-    → SteppedLent bundle given t (reached p next) u
-    → after ≡ text ++ take u.at u.buffer.now
-    → Stepped bundle given text (standing p (continue_value next)) after
-stepped_behind {bundle = bundle} {given = given} (Continue l) {text = text} {after = after} none stepped put =
-    let lines : after ≡ text ++ lines_at bundle given = put ∙ ap (λ (bytes : List ℕ). text ++ bytes) (bytes_alone none stepped.lines) in
-    record {
-      lines = lines;
-      panel = ap (λ (s : State). s.panel) stepped.state;
-      state = stepped.state;
-      more = stepped.more;
-      short = omega (arith, ap length lines, length-append text (lines_at bundle given), stepped.lines.put.place, stepped.short);
-      placed = stepped.placed;
-      further = stepped.further;
-    }
-stepped_behind {bundle = bundle} {given = given} (Break l) {text = text} {after = after} none stepped put =
-    let lines : after ≡ text ++ lines_at bundle given = put ∙ ap (λ (bytes : List ℕ). text ++ bytes) (bytes_alone none stepped.lines) in
-    record {
-      lines = lines;
-      panel = ap (λ (s : State). s.panel) stepped.state;
-      state = tt;
-      more = stepped.more;
-      short = omega (arith, ap length lines, length-append text (lines_at bundle given), stepped.lines.put.place, stepped.short);
-      placed = tt;
-      further = tt;
-    }
+-- ---- behind a text of fixed capacity
+
+module _ (p : Panel) where
+  panel_in : (next : ControlFlow Listing Listing) → p ≡ (state_in p next).panel
+  panel_in (Continue l) = refl
+  panel_in (Break l) = refl
+
+  -- what holds of the state holds where the listing goes on
+  pub if_onward : (P : State → Type 0) (next : ControlFlow Listing Listing) → P (state_in p next) → IfSome (continue_value next) (λ l. P (state_at p l))
+  if_onward P (Continue l) holds = holds
+  if_onward P (Break l) holds = tt
+
+-- lines that were put behind nothing, and then behind it
+module _ {bundle : List ℕ} {given : State} {t u : Text} {p : Panel} {next : ControlFlow Listing Listing} {bytes : List ℕ} (none : t.at ≡ 0)
+    (stepped : SteppedLent bundle given t (reached p next) u) (alone : bytes ≡ take u.at u.buffer.now) where
+  lines_alone : bytes ≡ lines_at bundle given
+  lines_alone = alone ∙ bytes_alone none stepped.lines
+
+  pub alone_ascii : IsAscii (lines_at bundle given) → IsAscii bytes
+  alone_ascii lines = rw lines_alone lines
+
+  -- they are as long as the place behind them
+  pub alone_short : length bytes ≤ step_room
+  alone_short = omega (arith, none, ap length lines_alone, stepped.lines.put.place, stepped.short)
+
+  pub stepped_behind : {text after : List ℕ} {result : Option Listing} → result ≡ continue_value next → after ≡ text ++ bytes
+      → Stepped bundle given text (standing p result) after
+  stepped_behind {text} {after} {result} same put =
+      rw same
+      (record {
+        lines = put ∙ ap (λ (bs : List ℕ). text ++ bs) lines_alone;
+        panel = panel_in p next ∙ ap (λ (s : State). s.panel) stepped.state;
+        state = if_onward p (λ s. s ≡ state_after bundle given) next stepped.state;
+        more = stepped.more;
+        short = omega (arith, ap length put, length-append text bytes, alone_short);
+        placed = if_onward p (λ s. Placed bundle s.place s.frames) next stepped.placed;
+        further = stepped.further;
+      })

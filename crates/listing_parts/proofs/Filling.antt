@@ -4,9 +4,9 @@ use mathlib.Core.Bool.{Bool, cond}
 use mathlib.Core.List.{List, [], ◌++◌, append_assoc}
 use Prim.Native.Nat.{ℕ, suc, ◌+◌, ◌≤◌, ◌<◌}
 use native.Mathlib.Omega.{arith}
-use lib.ListN.{length, take}
+use lib.ListN.{length, take, length-take}
 use Rattle.std.proofs.Common.{ControlFlow, Continue, Break}
-use Rattle.std.specs.Prelude.{IsAscii}
+use Rattle.std.specs.Prelude.{Option, IsAscii}
 use Rattle.std.specs.ControlFlow.{continue_value}
 use Rattle.std.proofs.lemmas.Str.{IsAscii-append}
 use Rattle.numbers.proofs.Over.{take-over}
@@ -125,15 +125,22 @@ filled {text = text} filling full =
 
 -- ---- as a part of a text of fixed capacity
 
-pub part_behind : {bundle : List ℕ} {given : State} {text after : Text} {p : Panel} {capacity : ℕ} (next : ControlFlow Listing Listing)
-    → length text.buffer.now ≡ capacity
-    → PartPutLent bundle given text (reached p next) after
-    → PartPut bundle given capacity (standing p (continue_value next)) (part_in after)
-part_behind (Continue l) size put =
-    record {
-      lines = put.lines;
-      full = omega (arith, size, put.full, put.put.put.place);
-      further = λ room. put.further (omega (arith, size, room));
-      placed = put.placed;
-    }
-part_behind (Break l) size put = record { lines = put.lines; full = tt; further = tt; placed = tt }
+module _ {bundle : List ℕ} {given : State} {text after : Text} {p : Panel} {next : ControlFlow Listing Listing} {capacity : ℕ}
+    (size : length text.buffer.now ≡ capacity) (put : PartPutLent bundle given text (reached p next) after) where
+  pub part_short : length (part_in after) ≤ capacity
+  part_short = omega (arith, length-take after.at after.buffer.now, put.put.put.kept, size)
+
+  pub part_behind : {part : List ℕ} {result : Option Listing} → result ≡ continue_value next → part ≡ part_in after
+      → PartPut bundle given capacity (standing p result) part
+  part_behind {part} {result} same is = rw (same, is) (go next put)
+    where
+      go : (next : ControlFlow Listing Listing) → PartPutLent bundle given text (reached p next) after
+          → PartPut bundle given capacity (standing p (continue_value next)) (part_in after)
+      go (Continue l) put =
+          record {
+            lines = put.lines;
+            full = omega (arith, size, put.full, put.put.put.place);
+            further = λ room. put.further (omega (arith, size, room));
+            placed = put.placed;
+          }
+      go (Break l) put = record { lines = put.lines; full = tt; further = tt; placed = tt }

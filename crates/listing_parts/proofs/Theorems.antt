@@ -54,7 +54,7 @@ parts_are_listing {bundle} {parts} short put = sym (append-nil parts) ∙ parts-
 -- they are such parts
 parts_behind : {bundle parts : List ℕ} {s : Reached} → PartsPutLent bundle parts s → PartsPut bundle parts (standing s.panel (continue_value s.next))
 parts_behind (no_part_lent begun) = no_part begun
-parts_behind (one_more_lent {s = s} before put) = one_more (parts_behind before) (part_behind s.next refl put)
+parts_behind (one_more_lent {s = s} before put) = one_more (parts_behind before) (part_behind {next = s.next} refl put refl refl)
 
 left_same : (bundle : List ℕ) (p : Panel) (next : ControlFlow Listing Listing) → left_in bundle p next ≡ left_from bundle p (continue_value next)
 left_same bundle p (Continue l) = refl
@@ -68,7 +68,7 @@ pub part_in_listing_lent : {bundle parts : List ℕ} {p : Panel} {l : Listing} {
     → PartsPutLent bundle parts (reached p (Continue l))
     → PartPutLent bundle (state_at p l) text s after
     → take (length (part_in after)) (drop (length parts) (listing bundle)) ≡ part_in after
-part_in_listing_lent {s = s} short before put = part_in_listing short (parts_behind before) (part_behind s.next refl put)
+part_in_listing_lent {s = s} short before put = part_in_listing short (parts_behind before) (part_behind {next = s.next} refl put refl refl)
 
 -- where the listing has ended, the parts put are together the listing
 pub parts_are_listing_lent : {bundle parts : List ℕ} {p : Panel} {l : Listing} → length bundle ≤ longest → PartsPutLent bundle parts (reached p (Break l))

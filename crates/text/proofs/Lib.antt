@@ -2,4 +2,4 @@
 pub mod Puts
 pub mod Decimal
 pub mod Hexadecimal
-pub mod Ascii
+pub mod PlainText

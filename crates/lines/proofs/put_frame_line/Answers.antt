@@ -2,7 +2,7 @@
 use Rattle.std.proofs.Common.{rules, arith, refl, ap, ◌∙◌, length}
 use Rattle.text.proofs.Puts.{bytes_alone}
 use Rattle.lines.specs.Lines.{number_or_0}
-use Rattle.lines.proofs.Ascii.{IsAscii-frame_line}
+use Rattle.lines.proofs.PlainText.{IsAscii-frame_line}
 use Rattle.lines.proofs.put_frame_line.Goals as goal
 
 pub put_ascii-requires : goal.put_ascii-requires

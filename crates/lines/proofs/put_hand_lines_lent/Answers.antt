@@ -1,7 +1,7 @@
 -- `lines::put_hand_lines_lent` meets its contract: after i turns the lines of the first i log records are put. Assumes nothing.
 use Rattle.std.proofs.Common.{arith}
 use Rattle.lines.proofs.Lines.{no_lines, next_line}
-use Rattle.lines.proofs.Ascii.{IsAscii-hand_lines}
+use Rattle.lines.proofs.PlainText.{IsAscii-hand_lines}
 use Rattle.lines.proofs.put_hand_lines_lent.Goals as goal
 
 pub loop-index-init : goal.loop-index-init

@@ -1,6 +1,6 @@
 -- `listing_parts::list_part_lent` meets its contract: after each step the lines so far are put. Assumes nothing.
 use Rattle.std.proofs.Common.{rules, arith}
-use Rattle.text.proofs.Ascii.{IsAscii-nil}
+use Rattle.text.proofs.PlainText.{IsAscii-nil}
 use Rattle.listing_parts.proofs.Filling.{filling_none, filling_step, filled_last, filled, part_ascii}
 use Rattle.listing_parts.proofs.list_part_lent.Goals as goal
 

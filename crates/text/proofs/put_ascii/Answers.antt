@@ -1,5 +1,5 @@
 -- `text::put_ascii` meets its contract. Assumes nothing.
-use Rattle.text.proofs.Ascii.{ascii_read}
+use Rattle.text.proofs.PlainText.{ascii_read}
 use Rattle.text.proofs.put_ascii.Goals as goal
 
 pub unwrap-requires : goal.unwrap-requires

@@ -1,6 +1,6 @@
 -- `text::put_decimal` meets its contract: the digits put into a buffer of its own are put. Assumes nothing.
 use Rattle.std.proofs.Common.{rules, arith, refl, ap, ◌∙◌, length}
-use Rattle.text.proofs.Ascii.{IsAscii-decimal}
+use Rattle.text.proofs.PlainText.{IsAscii-decimal}
 use Rattle.text.proofs.Puts.{bytes_alone}
 use Rattle.text.proofs.put_decimal.Goals as goal
 

@@ -1,7 +1,7 @@
 -- `text::put_hexadecimal` meets its contract: the digits put into a buffer of its own are put. Assumes nothing.
 use Rattle.std.proofs.Common.{rules, arith, refl, ap, ◌∙◌, length}
 use Rattle.numbers.specs.Numbers.{Bytes}
-use Rattle.text.proofs.Ascii.{IsAscii-hexadecimal}
+use Rattle.text.proofs.PlainText.{IsAscii-hexadecimal}
 use Rattle.text.proofs.Puts.{bytes_alone}
 use Rattle.text.proofs.put_hexadecimal.Goals as goal
 

@@ -9,7 +9,7 @@ use Rattle.numbers.proofs.Bytes.{Bytes-take, Bytes-drop}
 use Rattle.rules.specs.Sizes.{width, log_record_length}
 use Rattle.log_records.specs.LogRecords.{log_record_at, fields_in, payload_in}
 use Rattle.text.specs.Text.{ascii, decimal}
-use Rattle.text.proofs.Ascii.{IsAscii-nil, IsAscii-words, IsAscii-decimal, IsAscii-hexadecimal}
+use Rattle.text.proofs.PlainText.{IsAscii-nil, IsAscii-words, IsAscii-decimal, IsAscii-hexadecimal}
 use Rattle.lines.specs.Lines.{item, outcome, frame_line, payload_text, hand_line, hand_lines}
 
 IsAscii-item : (n : ℕ) → IsAscii (item n)

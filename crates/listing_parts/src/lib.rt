@@ -44,7 +44,7 @@ pub fn list_part<const CAP: usize>(
     state: &mut State,
     list: &mut Waiting,
     bundle: &[u8],
-    listing: Listing,
+    mut listing: Listing,
     text: &mut ArrayString<CAP>,
 ) -> Option<Listing>
     requires { Placed bundle.now listing.place listing.frames }

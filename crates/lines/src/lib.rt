@@ -11,7 +11,10 @@ ghost use Rattle.lines.specs.Lines.{number_or_0, outcome, frame_line, payload_te
 use arrayvec::ArrayString;
 use frame::Refusal;
 use log_records::{log_payload, panel_log_fields};
-use text::{Text, put_ascii, put_byte, put_decimal_lent, put_hexadecimal_lent, put_item, put_start, put_words};
+use text::{
+    Text, put_ascii, put_byte, put_decimal_lent, put_hexadecimal_lent, put_item, put_start,
+    put_words,
+};
 
 // Puts what was answered: `taken` for 0, or the number.
 #[tactic(auto, using(crate::proofs::Lines::outcome_taken, crate::proofs::Lines::outcome_refused), unfolding(text::specs::Text::ascii))]
@@ -123,3 +126,6 @@ pub fn put_hand_lines<const CAP: usize>(text: &mut ArrayString<CAP>, output: &[u
     put_hand_lines_lent(&mut lines, output, count);
     put_ascii(text, lines.as_bytes());
 }
+
+#[cfg(test)]
+mod tests;

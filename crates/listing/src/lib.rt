@@ -105,3 +105,6 @@ pub fn list_next<const CAP: usize>(
     put_ascii(text, lines.as_bytes());
     next.continue_value()
 }
+
+#[cfg(test)]
+mod tests;

@@ -61,3 +61,6 @@ pub fn list_part<const CAP: usize>(
     put_ascii(text, part.as_bytes());
     next.continue_value()
 }
+
+#[cfg(test)]
+mod tests;

@@ -137,3 +137,6 @@ pub fn put_hexadecimal<const CAP: usize>(text: &mut ArrayString<CAP>, bytes: &[u
     put_hexadecimal_lent(&mut digits, bytes);
     put_ascii(text, digits.as_bytes());
 }
+
+#[cfg(test)]
+mod tests;

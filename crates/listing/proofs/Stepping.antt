@@ -138,11 +138,11 @@ module _ (p : Panel) where
   panel_in (Break l) = refl
 
   -- what holds of the state holds where the listing goes on
-  pub if_onward : (P : State → Type 0) (next : ControlFlow Listing Listing) → P (state_in p next) → IfSome (continue_value next) (λ l. P (state_at p l))
+  if_onward : (P : State → Type 0) (next : ControlFlow Listing Listing) → P (state_in p next) → IfSome (continue_value next) (λ l. P (state_at p l))
   if_onward P (Continue l) holds = holds
   if_onward P (Break l) holds = tt
 
--- lines that were put behind nothing, and then behind it
+-- lines put behind nothing, and then behind such a text
 module _ {bundle : List ℕ} {given : State} {t u : Text} {p : Panel} {next : ControlFlow Listing Listing} {bytes : List ℕ} (none : t.at ≡ 0)
     (stepped : SteppedLent bundle given t (reached p next) u) (alone : bytes ≡ take u.at u.buffer.now) where
   lines_alone : bytes ≡ lines_at bundle given

@@ -1,11 +1,6 @@
-// A step of the listing behind a text of fixed capacity.
+// A step of the listing behind a text of fixed capacity: of a bundle of one frame, which has no bytes.
 use super::*;
 use slots::SLOTS;
-
-// The bundle of document 01's case 3: the frame of its case 2 and then that of its case 1.
-const BUNDLE: &[u8] =
-    b"\x00\x1fDRY\x00\x02\x03\0\0\0\0\0\0\x1c\x85\0\0\0\0\0\0\0\x08\0\0\0\0\0\0\x1c\x84\x00\
-    \x00\x19DRY\x00\x02\x03\0\0\0\0\0\0\x1c\x84\0\0\0\0\0\0\0\0\x02OK";
 
 #[test]
 fn a_step_behind_a_text_of_fixed_capacity(rt: HostRuntime) {
@@ -23,11 +18,15 @@ fn a_step_behind_a_text_of_fixed_capacity(rt: HostRuntime) {
     };
     let mut text = ArrayString::<4112>::new();
     text.push_str("> ");
-    let next = list_next(&mut state, &mut list, BUNDLE, start(), &mut text);
-    assert_eq!(rt; text.as_str(), "> frame 1 taken\n");
-    assert_eq!(rt; next.map(|next| (next.place, next.frames)), Some((33, 1)));
-    let mut text = ArrayString::<4096>::new();
-    let last = list_next(&mut state, &mut list, &[], start(), &mut text);
-    assert_eq!(rt; text.as_str(), "end\n");
+    let next = list_next(&mut state, &mut list, b"\0\0", start(), &mut text);
+    assert_eq!(rt; text.as_str(), "> frame 1 1\n");
+    assert_eq!(rt; next.map(|next| (next.place, next.frames)), Some((2, 1)));
+    let last = list_next(
+        &mut state,
+        &mut list,
+        b"",
+        start(),
+        &mut ArrayString::<4096>::new(),
+    );
     assert!(rt; last.is_none());
 }

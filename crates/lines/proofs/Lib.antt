@@ -1,3 +1,3 @@
 -- The laws of the lines.
 pub mod Lines
-pub mod PlainText
+pub mod LinesLent

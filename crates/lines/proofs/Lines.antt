@@ -1,39 +1,28 @@
 -- The lines: what was answered and the text of a payload by cases, and the pieces of a line put one behind the other.
-use mathlib.Core.Path.{◌≡◌, refl}
-use mathlib.Core.List.{List, [], ◌∷◌, ◌++◌}
-use Prim.Native.Nat.{ℕ, zero, suc, ◌+◌, ◌≤◌}
+use mathlib.Core.Path.{◌≡◌, refl, sym}
+use mathlib.Core.List.{List, [], ◌∷◌, ◌++◌, append_assoc, append-nil}
+use Prim.Native.Nat.{ℕ, zero, suc, ◌+◌, ◌<◌}
 use native.Mathlib.Numerals.{add-one}
 use native.Mathlib.Omega.{arith}
 use lib.ListN.{length}
+use Rattle.frame.specs.declared.refusal.Refusal.{Refusal}
+use Rattle.frame.specs.Refusal.{number_of}
+use Rattle.frame.proofs.Refusals.{number_of_pos}
 use Rattle.log_records.specs.LogRecords.{log_record_at, fields_in, payload_in}
-use Rattle.text.specs.declared.Text.{Text}
 use Rattle.text.specs.Text.{ascii, decimal, hexadecimal}
-use Rattle.text.specs.Put.{PutBehind}
-use Rattle.text.proofs.Puts.{put_none, put_behind}
 use Rattle.lines.specs.Lines.{item, outcome, frame_line, payload_text, hand_line, hand_lines}
 
--- ---- the line of a frame
-
-pub outcome_taken : (number : ℕ) → number ≡ 0 → ascii "taken" ≡ outcome number
+pub outcome_taken : outcome 0 ≡ ascii "taken"
 unfolding outcome
-outcome_taken zero none = refl
-outcome_taken (suc n) none = absurd (omega arith)
+outcome_taken = refl
 
-pub outcome_refused : (number : ℕ) → (number ≡ 0 → ⊥) → decimal number ≡ outcome number
+decimal_outcome : (number : ℕ) → 0 < number → outcome number ≡ decimal number
 unfolding outcome
-outcome_refused zero some = absurd (some refl)
-outcome_refused (suc n) some = refl
+decimal_outcome zero some = absurd (omega arith)
+decimal_outcome (suc n) some = refl
 
--- its pieces are put
-pub frame_pieces : {t u v w : Text} (frame number : ℕ) → t.at ≤ length t.buffer.now
-    → PutBehind t (ascii "frame " ++ item frame) u
-    → PutBehind u (outcome number) v
-    → PutBehind v (ascii "\n") w
-    → PutBehind t (frame_line frame number) w
-unfolding frame_line
-frame_pieces frame number within first second last = put_behind within (put_behind within first second) last
-
--- ---- the line of a log record
+pub outcome_refused : (refusal : Refusal) → outcome (number_of refusal) ≡ decimal (number_of refusal)
+outcome_refused refusal = decimal_outcome (number_of refusal) (number_of_pos refusal)
 
 pub payload_text_none : (payload : List ℕ) → length payload ≡ 0 → ascii "-" ≡ payload_text payload
 unfolding payload_text
@@ -45,30 +34,42 @@ unfolding payload_text
 payload_text_some [] some = absurd (some refl)
 payload_text_some (b ∷ bs) some = refl
 
--- its pieces are put
-pub hand_pieces : {t u v w x : Text} (log_record : List ℕ) (source deadline : ℕ) (payload : List ℕ) → t.at ≤ length t.buffer.now
+-- the pieces of a frame's line
+pub frame_pieces : (frame number : ℕ) (t₀ t₁ t₂ t₃ t₄ t₅ : List ℕ)
+    → t₁ ≡ t₀ ++ ascii "frame "
+    → t₂ ≡ t₁ ++ decimal frame
+    → t₃ ≡ t₂ ++ ascii " "
+    → t₄ ≡ t₃ ++ outcome number
+    → t₅ ≡ t₄ ++ ascii "\n"
+    → t₅ ≡ t₀ ++ frame_line frame number
+unfolding frame_line item
+frame_pieces frame number t₀ t₁ t₂ t₃ t₄ t₅ e₁ e₂ e₃ e₄ e₅ = rw (e₅, e₄, e₃, e₂, e₁) (simp append_assoc)
+
+-- those of a log record's line
+pub hand_pieces : (log_record : List ℕ) (source deadline : ℕ) (payload : List ℕ) (t₀ t₁ t₂ t₃ t₄ t₅ t₆ t₇ : List ℕ)
     → source ≡ (fields_in log_record).source
     → deadline ≡ (fields_in log_record).deadline
     → payload ≡ payload_in log_record
-    → PutBehind t (ascii "hand " ++ item source) u
-    → PutBehind u (item deadline) v
-    → PutBehind v (payload_text payload) w
-    → PutBehind w (ascii "\n") x
-    → PutBehind t (hand_line log_record) x
-unfolding hand_line
-hand_pieces log_record source deadline payload within s d p first second third last =
-    rw (← s, ← d, ← p) (put_behind within (put_behind within (put_behind within first second) third) last)
+    → t₁ ≡ t₀ ++ ascii "hand "
+    → t₂ ≡ t₁ ++ decimal source
+    → t₃ ≡ t₂ ++ ascii " "
+    → t₄ ≡ t₃ ++ decimal deadline
+    → t₅ ≡ t₄ ++ ascii " "
+    → t₆ ≡ t₅ ++ payload_text payload
+    → t₇ ≡ t₆ ++ ascii "\n"
+    → t₇ ≡ t₀ ++ hand_line log_record
+unfolding hand_line item
+hand_pieces log_record source deadline payload t₀ t₁ t₂ t₃ t₄ t₅ t₆ t₇ s d p e₁ e₂ e₃ e₄ e₅ e₆ e₇ =
+    rw (e₇, e₆, e₅, e₄, e₃, e₂, e₁, s, d, p) (simp append_assoc)
 
--- ---- the lines of log records
-
-pub no_lines : (t : Text) (output : List ℕ) → PutBehind t (hand_lines 0 output) t
+pub no_lines : (text output : List ℕ) → text ≡ text ++ hand_lines 0 output
 unfolding hand_lines
-no_lines t output = put_none t
+no_lines text output = sym (append-nil text)
 
--- one more
-pub next_line : {t u v : Text} (output : List ℕ) (i : ℕ) → t.at ≤ length t.buffer.now
-    → PutBehind t (hand_lines i output) u
-    → PutBehind u (hand_line (log_record_at output i)) v
-    → PutBehind t (hand_lines (i + 1) output) v
+-- the line of one log record more
+pub next_line : (t₀ t₁ t₂ output : List ℕ) (i : ℕ)
+    → t₁ ≡ t₀ ++ hand_lines i output
+    → t₂ ≡ t₁ ++ hand_line (log_record_at output i)
+    → t₂ ≡ t₀ ++ hand_lines (i + 1) output
 unfolding hand_lines
-next_line output i within before next = rw add-one (put_behind within before next)
+next_line t₀ t₁ t₂ output i e₁ e₂ = rw (add-one, e₂, e₁) (simp append_assoc)

@@ -2,22 +2,24 @@
 // capacity. An internal crate. Precondition: room.
 #![tactic(auto)]
 
-ghost use Rattle.std.specs.Prelude.{◌≡◌, ◌++◌, ◌+◌, ◌*◌, ◌≤◌, length, IsAscii};
-ghost use Rattle.arrayvec.specs.ArrayString.{array_string_len};
+ghost use Rattle.std.specs.Prelude.{◌+◌, ◌*◌, ◌≤◌, length};
 ghost use Rattle.log_records.specs.LogRecords.{log_record_at};
 ghost use Rattle.text.specs.Put.{RoomBehind, PutBehind};
 ghost use Rattle.lines.specs.Lines.{number_or_0, outcome, frame_line, payload_text, hand_line, hand_lines};
 
-use arrayvec::ArrayString;
+mod fixed;
+#[cfg(test)]
+mod tests;
+
+pub use fixed::{put_frame_line, put_hand_lines};
 use frame::Refusal;
 use log_records::{log_payload, panel_log_fields};
 use text::{
-    Text, put_ascii, put_byte, put_decimal_lent, put_hexadecimal_lent, put_item, put_start,
-    put_words,
+    Text, put_byte, put_decimal_lent, put_hexadecimal_lent, put_item, put_start, put_words,
 };
 
 // Puts what was answered: `taken` for 0, or the number.
-#[tactic(auto, using(crate::proofs::Lines::outcome_taken, crate::proofs::Lines::outcome_refused), unfolding(text::specs::Text::ascii))]
+#[tactic(auto, using(crate::proofs::LinesLent::outcome_taken_lent, crate::proofs::LinesLent::outcome_refused_lent), unfolding(text::specs::Text::ascii))]
 fn put_outcome(text: &mut Text, number: u8)
     requires { RoomBehind text.old 20 }
     ensures bytes { PutBehind text.old (outcome number) text.new }
@@ -86,46 +88,8 @@ pub fn put_hand_lines_lent(text: &mut Text, output: &[u8], count: usize)
     requires { RoomBehind text.old (count * 112) }
     ensures bytes { PutBehind text.old (hand_lines count output.now) text.new }
     ensures short { text.new.at ≤ text.old.at + count * 112 }
-    ensures ascii { IsAscii (hand_lines count output.now) }
 {
     for index in 0..count {
         put_hand_line(text, output, index);
     }
 }
-
-// ---- behind a text of fixed capacity
-
-// Puts the line of a frame: its number from 1, and what was answered.
-pub fn put_frame_line<const CAP: usize>(
-    text: &mut ArrayString<CAP>,
-    frame: u64,
-    refusal: Option<Refusal>,
-)
-    requires { array_string_len text.old + 48 ≤ CAP }
-    ensures bytes { text.new.bytes ≡ text.old.bytes ++ frame_line frame (number_or_0 refusal) }
-    ensures short { array_string_len text.new ≤ array_string_len text.old + 48 }
-{
-    let mut line = Text {
-        buffer: &mut [0u8; 48],
-        at: 0,
-    };
-    put_answer_line(&mut line, frame, refusal);
-    put_ascii(text, line.as_bytes());
-}
-
-// Puts the lines of so many log records at the start of an output.
-pub fn put_hand_lines<const CAP: usize>(text: &mut ArrayString<CAP>, output: &[u8], count: usize)
-    requires { array_string_len text.old + count * 112 ≤ CAP }
-    ensures bytes { text.new.bytes ≡ text.old.bytes ++ hand_lines count output.now }
-    ensures short { array_string_len text.new ≤ array_string_len text.old + count * 112 }
-{
-    let mut lines = Text {
-        buffer: &mut [0u8; CAP],
-        at: 0,
-    };
-    put_hand_lines_lent(&mut lines, output, count);
-    put_ascii(text, lines.as_bytes());
-}
-
-#[cfg(test)]
-mod tests;

@@ -1,5 +1,6 @@
 // Lines behind a text of fixed capacity.
 use super::*;
+use arrayvec::ArrayString;
 
 // Case 3 of document 01, and a frame that is refused.
 #[test]

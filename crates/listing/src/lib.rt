@@ -3,21 +3,23 @@
 // place in the bundle, and room for a step's lines.
 #![tactic(auto)]
 
-ghost use Rattle.std.specs.Prelude.{◌≡◌, ◌+◌, ◌≤◌, IsAscii};
-ghost use Rattle.arrayvec.specs.ArrayString.{array_string_len};
+ghost use Rattle.std.specs.Prelude.{◌≡◌};
 ghost use Rattle.lent.specs.Record.{parts_of, record_of, SameState, SameWaiting};
 ghost use Rattle.text.specs.Put.{RoomBehind};
-ghost use Rattle.listing.specs.Listing.{lines_at};
-ghost use Rattle.listing.specs.Step.{step_room, reached, standing, state_at, Placed, Stepped, SteppedLent};
+ghost use Rattle.listing.specs.Step.{step_room, reached, state_at, Placed, SteppedLent};
 
-use arrayvec::ArrayString;
+mod fixed;
+#[cfg(test)]
+mod tests;
+
 use bundle::{Step, part_at, step_at};
+pub use fixed::list_next;
 use lent::{State, Waiting};
 use lines::{put_answer_line, put_hand_lines_lent};
 use parts::OUTPUT;
 use receiving::receive_in_place;
 use std::ops::ControlFlow;
-use text::{Text, put_ascii, put_words};
+use text::{Text, put_words};
 
 // The bytes that the longest lines of a step have room in.
 pub const STEP_ROOM: usize = 4096;
@@ -52,7 +54,6 @@ pub fn list_next_lent(
     ensures same { SameState state.old state.new × SameWaiting list.old list.new }
     ensures stepped { SteppedLent bundle.now (state_at (record_of (parts_of state.old list.old)) listing) text.old
         (reached (record_of (parts_of state.new list.new)) result) text.new }
-    ensures ascii { IsAscii (lines_at bundle.now (state_at (record_of (parts_of state.old list.old)) listing)) }
 {
     match step_at(bundle, listing.place) {
         Step::Frame {
@@ -82,29 +83,3 @@ pub fn list_next_lent(
         }
     }
 }
-
-// One step, behind a text of fixed capacity: puts the lines of the next frame and gives where the listing
-// then stands, or puts the last line and gives none.
-pub fn list_next<const CAP: usize>(
-    state: &mut State,
-    list: &mut Waiting,
-    bundle: &[u8],
-    listing: Listing,
-    text: &mut ArrayString<CAP>,
-) -> Option<Listing>
-    requires { Placed bundle.now listing.place listing.frames × (array_string_len text.old + step_room ≤ CAP) }
-    ensures same { SameState state.old state.new × SameWaiting list.old list.new }
-    ensures stepped { Stepped bundle.now (state_at (record_of (parts_of state.old list.old)) listing) text.old.bytes
-        (standing (record_of (parts_of state.new list.new)) result) text.new.bytes }
-{
-    let mut lines = Text {
-        buffer: &mut [0u8; STEP_ROOM],
-        at: 0,
-    };
-    let next = list_next_lent(state, list, bundle, listing, &mut lines);
-    put_ascii(text, lines.as_bytes());
-    next.continue_value()
-}
-
-#[cfg(test)]
-mod tests;

@@ -1,5 +1,6 @@
 // A step of the listing behind a text of fixed capacity: of a bundle of one frame, which has no bytes.
 use super::*;
+use arrayvec::ArrayString;
 use slots::SLOTS;
 
 #[test]

@@ -4,143 +4,65 @@ use mathlib.Core.Bool.{Bool, cond}
 use mathlib.Core.List.{List, [], ◌++◌, append_assoc}
 use Prim.Native.Nat.{ℕ, suc, ◌+◌, ◌≤◌, ◌<◌}
 use native.Mathlib.Omega.{arith}
-use lib.ListN.{length, take, length-take}
-use Rattle.std.proofs.Common.{ControlFlow, Continue, Break}
-use Rattle.std.specs.Prelude.{Option, IsAscii}
-use Rattle.std.specs.ControlFlow.{continue_value}
-use Rattle.std.proofs.lemmas.Str.{IsAscii-append}
-use Rattle.numbers.proofs.Over.{take-over}
+use lib.ListN.{length}
+use Rattle.std.specs.Prelude.{Option, Some, None}
 use Rattle.rules.specs.Panel.{Panel}
-use Rattle.text.specs.declared.Text.{Text}
-use Rattle.text.specs.Put.{PutBehind}
-use Rattle.text.proofs.Puts.{put_none, put_behind}
 use Rattle.listing.specs.declared.Listing.{Listing}
 use Rattle.listing.specs.Listing.{State, lines_at, state_after, lines_from}
-use Rattle.listing.specs.Step.{reached, standing, state_at, step_room, Placed, SteppedLent}
-use Rattle.listing_parts.specs.Part.{left_in, part_in, at_start, PartPut, PartPutLent}
+use Rattle.listing.specs.Step.{standing, state_at, step_room, Placed, Stepped}
+use Rattle.listing_parts.specs.Part.{left_from, PartPut}
 use Rattle.listing.proofs.Theorems.{lines_from_enough}
 
 -- before a step: its lines, and what is left after it
-module _ {bundle : List ℕ} {given : State} {text after : Text} {p : Panel} where
-  left_step : (next : ControlFlow Listing Listing) → SteppedLent bundle given text (reached p next) after
-      → lines_from (suc (length bundle)) bundle given ≡ lines_at bundle given ++ left_in bundle p next
+module _ {bundle : List ℕ} {given : State} {text after : List ℕ} {p : Panel} where
+  left_step : (next : Option Listing) → Stepped bundle given text (standing p next) after
+      → lines_from (suc (length bundle)) bundle given ≡ lines_at bundle given ++ left_from bundle p next
   unfolding lines_from
-  left_step (Break l) stepped =
+  left_step None stepped =
       ap (λ (b : Bool). lines_at bundle given ++ cond b (lines_from (length bundle) bundle (state_after bundle given)) []) (sym stepped.more)
-  left_step (Continue l) stepped =
+  left_step (Some l) stepped =
       ap (λ (b : Bool). lines_at bundle given ++ cond b (lines_from (length bundle) bundle (state_after bundle given)) []) (sym stepped.more)
       ∙ ap (λ (s : State). lines_at bundle given ++ lines_from (length bundle) bundle s) (sym stepped.state)
       ∙ ap (λ (rest : List ℕ). lines_at bundle given ++ rest)
       (sym (lines_from_enough (length bundle) bundle (state_at p l) stepped.placed.within (omega (arith, stepped.further))))
 
 -- the lines put so far, and where the listing stands then
-pub record Filling (bundle : List ℕ) (given : State) (text : Text) (p : Panel) (l : Listing) (now : Text) : Type 0 where
-  pub lines : List ℕ
-  pub put : PutBehind (at_start text) lines now
-  pub room : now.at ≤ length text.buffer.now
-  pub left : lines_from (suc (length bundle)) bundle given ≡ lines ++ lines_from (suc (length bundle)) bundle (state_at p l)
+pub record Filling (bundle : List ℕ) (given : State) (p : Panel) (l : Listing) (text : List ℕ) : Type 0 where
+  pub left : lines_from (suc (length bundle)) bundle given ≡ text ++ lines_from (suc (length bundle)) bundle (state_at p l)
   pub onward : given.place ≤ l.place
-  pub further : 0 < now.at → given.place < l.place
+  pub further : 0 < length text → given.place < l.place
   pub placed : Placed bundle l.place l.frames
 
 -- none yet
-pub filling_none : {bundle : List ℕ} {p : Panel} {l : Listing} (text : Text) → Placed bundle l.place l.frames
-    → Filling bundle (state_at p l) text p l (at_start text)
-filling_none text placed =
-    record {
-      lines = [];
-      put = put_none (at_start text);
-      room = omega arith;
-      left = refl;
-      onward = omega arith;
-      further = λ some. absurd (omega arith);
-      placed = placed;
-    }
+pub filling_none : {bundle text : List ℕ} {p : Panel} {l : Listing} → text ≡ [] → Placed bundle l.place l.frames → Filling bundle (state_at p l) p l text
+filling_none none placed = record { left = rw none refl; onward = omega arith; further = rw none (λ some. absurd (omega arith)); placed = placed }
 
--- they are the part that was put
-part_lines : (text : Text) {after : Text} {lines : List ℕ} → PutBehind (at_start text) lines after → part_in after ≡ lines
-part_lines text {after} {lines} put =
-    let size : after.at ≡ length lines = omega (arith, put.put.place) in
-    ap (λ (n : ℕ). take n after.buffer.now) size
-    ∙ ap (take (length lines)) put.put.bytes
-    ∙ take-over text.buffer.now lines
-
-module _ {bundle : List ℕ} {given : State} {text : Text} {p q : Panel} {l : Listing} {now after : Text} (filling : Filling bundle given text p l now) where
+module _ {bundle : List ℕ} {given : State} {p q : Panel} {l : Listing} {text after : List ℕ} (filling : Filling bundle given p l text) where
   -- what was left is the lines so far, those of one step more, and what is left then
-  left_more : (next : ControlFlow Listing Listing) → SteppedLent bundle (state_at p l) now (reached q next) after
-      → lines_from (suc (length bundle)) bundle given ≡ (filling.lines ++ lines_at bundle (state_at p l)) ++ left_in bundle q next
+  left_more : (next : Option Listing) → Stepped bundle (state_at p l) text (standing q next) after
+      → lines_from (suc (length bundle)) bundle given ≡ after ++ left_from bundle q next
   left_more next stepped =
       filling.left
-      ∙ ap (λ (rest : List ℕ). filling.lines ++ rest) (left_step next stepped)
-      ∙ sym (append_assoc filling.lines (lines_at bundle (state_at p l)) (left_in bundle q next))
-
-  put_more : (next : ControlFlow Listing Listing) → SteppedLent bundle (state_at p l) now (reached q next) after
-      → PutBehind (at_start text) (filling.lines ++ lines_at bundle (state_at p l)) after
-  put_more next stepped = put_behind (omega arith) filling.put stepped.lines
-
-  -- the part is ASCII then, if it was and its lines are
-  pub part_ascii : (next : ControlFlow Listing Listing) → SteppedLent bundle (state_at p l) now (reached q next) after
-      → IsAscii (part_in now)
-      → IsAscii (lines_at bundle (state_at p l))
-      → IsAscii (part_in after)
-  part_ascii next stepped part lines =
-      rw (part_lines text (put_more next stepped))
-      (IsAscii-append filling.lines (lines_at bundle (state_at p l)) (rw (sym (part_lines text filling.put)) part) lines)
+      ∙ ap (λ (rest : List ℕ). text ++ rest) (left_step next stepped)
+      ∙ sym (append_assoc text (lines_at bundle (state_at p l)) (left_from bundle q next))
+      ∙ ap (λ (lines : List ℕ). lines ++ left_from bundle q next) (sym stepped.lines)
 
   -- the listing goes on after it
-  pub filling_step : {m : Listing} → now.at + step_room ≤ length text.buffer.now → SteppedLent bundle (state_at p l) now (reached q (Continue m)) after
-      → Filling bundle given text q m after
-  filling_step {m} room stepped =
+  pub filling_step : {m : Listing} → Stepped bundle (state_at p l) text (standing q (Some m)) after → Filling bundle given q m after
+  filling_step {m} stepped =
       record {
-        lines = filling.lines ++ lines_at bundle (state_at p l);
-        put = put_more (Continue m) stepped;
-        room = omega (arith, room, stepped.short);
-        left = left_more (Continue m) stepped;
+        left = left_more (Some m) stepped;
         onward = omega (arith, filling.onward, stepped.further);
         further = λ _. omega (arith, filling.onward, stepped.further);
         placed = stepped.placed;
       }
 
   -- or ends
-  pub filled_last : {m : Listing} → SteppedLent bundle (state_at p l) now (reached q (Break m)) after
-      → PartPutLent bundle given text (reached q (Break m)) after
-  filled_last {m} stepped =
-      let put = put_more (Break m) stepped in
-      let part = part_lines text put in
-      record { put = rw part put; lines = rw part (left_more (Break m) stepped); full = tt; further = tt; placed = stepped.placed }
+  pub filled_last : {capacity : ℕ} → Stepped bundle (state_at p l) text (standing q None) after → PartPut bundle given capacity (standing q None) after
+  filled_last stepped = record { lines = left_more None stepped; full = tt; further = tt; placed = tt }
 
 -- or no room is left for one more
-pub filled : {bundle : List ℕ} {given : State} {text : Text} {p : Panel} {l : Listing} {now : Text} → Filling bundle given text p l now
-    → length text.buffer.now < now.at + step_room
-    → PartPutLent bundle given text (reached p (Continue l)) now
-filled {text = text} filling full =
-    let part = part_lines text filling.put in
-    record {
-      put = rw part filling.put;
-      lines = rw part filling.left;
-      full = full;
-      further = λ room. filling.further (omega (arith, full));
-      placed = filling.placed;
-    }
-
--- ---- as a part of a text of fixed capacity
-
-module _ {bundle : List ℕ} {given : State} {text after : Text} {p : Panel} {next : ControlFlow Listing Listing} {capacity : ℕ}
-    (size : length text.buffer.now ≡ capacity) (put : PartPutLent bundle given text (reached p next) after) where
-  pub part_short : length (part_in after) ≤ capacity
-  part_short = omega (arith, length-take after.at after.buffer.now, put.put.put.kept, size)
-
-  pub part_behind : {part : List ℕ} {result : Option Listing} → result ≡ continue_value next → part ≡ part_in after
-      → PartPut bundle given capacity (standing p result) part
-  part_behind {part} {result} same is = rw (same, is) (go next put)
-    where
-      go : (next : ControlFlow Listing Listing) → PartPutLent bundle given text (reached p next) after
-          → PartPut bundle given capacity (standing p (continue_value next)) (part_in after)
-      go (Continue l) put =
-          record {
-            lines = put.lines;
-            full = omega (arith, size, put.full, put.put.put.place);
-            further = λ room. put.further (omega (arith, size, room));
-            placed = put.placed;
-          }
-      go (Break l) put = record { lines = put.lines; full = tt; further = tt; placed = tt }
+pub filled : {bundle : List ℕ} {given : State} {p : Panel} {l : Listing} {text : List ℕ} {capacity : ℕ} → Filling bundle given p l text
+    → capacity < length text + step_room
+    → PartPut bundle given capacity (standing p (Some l)) text
+filled filling full = record { lines = filling.left; full = full; further = λ room. filling.further (omega (arith, full)); placed = filling.placed }

@@ -3,6 +3,7 @@ use mathlib.Core.Path.{◌≡◌, refl, sym, ap, ◌∙◌}
 use mathlib.Core.Bool.{Bool, cond}
 use mathlib.Core.List.{List, ◌++◌, append_assoc, append-nil}
 use Prim.Native.Nat.{ℕ, suc, ◌≤◌}
+use native.Mathlib.Omega.{arith}
 use borrow.Author.Tests.{le-ltb}
 use lib.ListN.{length, take, drop}
 use lib.Seq.{take_at, drop_at}
@@ -13,12 +14,11 @@ use Rattle.text.specs.declared.Text.{Text}
 use Rattle.text.specs.Text.{ascii}
 use Rattle.rules.specs.Panel.{Panel}
 use Rattle.listing.specs.declared.Listing.{Listing}
-use Rattle.listing.specs.Listing.{start, lines_from, longest, listing}
+use Rattle.listing.specs.Listing.{State, start, lines_from, longest, listing}
 use Rattle.listing.specs.Step.{Standing, standing, Reached, reached, state_at}
 use Rattle.listing_parts.specs.Part.{left_from, lines_left, left_in, left_of, part_in, PartPut, PartsPut, PartPutLent, PartsPutLent}
 use Rattle.listing_parts.specs.Part.PartsPut.{no_part, one_more}
 use Rattle.listing_parts.specs.Part.PartsPutLent.{no_part as no_part_lent, one_more as one_more_lent}
-use Rattle.listing_parts.proofs.Filling.{part_behind}
 
 -- ---- of parts put into texts of fixed capacity
 
@@ -51,10 +51,17 @@ parts_are_listing {bundle} {parts} short put = sym (append-nil parts) ∙ parts-
 
 -- ---- of parts put into lent memory
 
--- they are such parts
+-- each is such a part, of a text as long as the buffer
+part_behind : {bundle : List ℕ} {given : State} {text after : Text} {p : Panel} (next : ControlFlow Listing Listing)
+    → PartPutLent bundle given text (reached p next) after
+    → PartPut bundle given (length text.buffer.now) (standing p (continue_value next)) (part_in after)
+part_behind (Continue l) put =
+    record { lines = put.lines; full = omega (arith, put.full, put.put.put.place); further = put.further; placed = put.placed }
+part_behind (Break l) put = record { lines = put.lines; full = tt; further = tt; placed = tt }
+
 parts_behind : {bundle parts : List ℕ} {s : Reached} → PartsPutLent bundle parts s → PartsPut bundle parts (standing s.panel (continue_value s.next))
 parts_behind (no_part_lent begun) = no_part begun
-parts_behind (one_more_lent {s = s} before put) = one_more (parts_behind before) (part_behind {next = s.next} refl put refl refl)
+parts_behind (one_more_lent {s = s} before put) = one_more (parts_behind before) (part_behind s.next put)
 
 left_same : (bundle : List ℕ) (p : Panel) (next : ControlFlow Listing Listing) → left_in bundle p next ≡ left_from bundle p (continue_value next)
 left_same bundle p (Continue l) = refl
@@ -68,7 +75,7 @@ pub part_in_listing_lent : {bundle parts : List ℕ} {p : Panel} {l : Listing} {
     → PartsPutLent bundle parts (reached p (Continue l))
     → PartPutLent bundle (state_at p l) text s after
     → take (length (part_in after)) (drop (length parts) (listing bundle)) ≡ part_in after
-part_in_listing_lent {s = s} short before put = part_in_listing short (parts_behind before) (part_behind {next = s.next} refl put refl refl)
+part_in_listing_lent {s = s} short before put = part_in_listing short (parts_behind before) (part_behind s.next put)
 
 -- where the listing has ended, the parts put are together the listing
 pub parts_are_listing_lent : {bundle parts : List ℕ} {p : Panel} {l : Listing} → length bundle ≤ longest → PartsPutLent bundle parts (reached p (Break l))

@@ -3,16 +3,19 @@
 // place in the bundle.
 #![tactic(auto)]
 
-ghost use Rattle.std.specs.Prelude.{IsAscii};
 ghost use Rattle.lent.specs.Record.{parts_of, record_of, SameState, SameWaiting};
-ghost use Rattle.listing.specs.Step.{reached, standing, state_at, Placed};
-ghost use Rattle.listing_parts.specs.Part.{part_in, PartPut, PartPutLent};
+ghost use Rattle.listing.specs.Step.{reached, state_at, Placed};
+ghost use Rattle.listing_parts.specs.Part.{PartPutLent};
 
-use arrayvec::ArrayString;
+mod fixed;
+#[cfg(test)]
+mod tests;
+
+pub use fixed::list_part;
 use lent::{State, Waiting};
 use listing::{Listing, STEP_ROOM, list_next_lent};
 use std::ops::ControlFlow;
-use text::{Text, put_ascii};
+use text::Text;
 
 // Puts a part of the listing at the start of the buffer: the lines of step after step, while the listing
 // goes on and there is room for a step's lines. Gives where the listing then stands, and whether it goes
@@ -28,7 +31,6 @@ pub fn list_part_lent(
     ensures same { SameState state.old state.new × SameWaiting list.old list.new }
     ensures put { PartPutLent bundle.now (state_at (record_of (parts_of state.old list.old)) listing) text.old
         (reached (record_of (parts_of state.new list.new)) result) text.new }
-    ensures ascii { IsAscii (part_in text.new) }
 {
     text.at = 0;
     'steps: while text.at + STEP_ROOM <= text.buffer.len() {
@@ -36,31 +38,3 @@ pub fn list_part_lent(
     }
     ControlFlow::Continue(listing)
 }
-
-// Puts a part of the listing into a text of fixed capacity: the lines of step after step, while the
-// listing goes on and there is room for a step's lines. Gives where the listing then stands, or none where
-// it has ended.
-pub fn list_part<const CAP: usize>(
-    state: &mut State,
-    list: &mut Waiting,
-    bundle: &[u8],
-    mut listing: Listing,
-    text: &mut ArrayString<CAP>,
-) -> Option<Listing>
-    requires { Placed bundle.now listing.place listing.frames }
-    ensures same { SameState state.old state.new × SameWaiting list.old list.new }
-    ensures put { PartPut bundle.now (state_at (record_of (parts_of state.old list.old)) listing) CAP
-        (standing (record_of (parts_of state.new list.new)) result) text.new.bytes }
-{
-    let mut part = Text {
-        buffer: &mut [0u8; CAP],
-        at: 0,
-    };
-    let next = list_part_lent(state, list, bundle, listing, &mut part);
-    text.clear();
-    put_ascii(text, part.as_bytes());
-    next.continue_value()
-}
-
-#[cfg(test)]
-mod tests;

@@ -1,5 +1,6 @@
 // A part of the listing in a text of fixed capacity.
 use super::*;
+use arrayvec::ArrayString;
 use listing::start;
 use slots::SLOTS;
 

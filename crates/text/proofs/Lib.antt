@@ -2,4 +2,3 @@
 pub mod Puts
 pub mod Decimal
 pub mod Hexadecimal
-pub mod PlainText

@@ -74,8 +74,3 @@ bytes_behind {t} {u} {text} within behind =
     let front : length (take t.at t.buffer.now ++ text) ≡ u.at =
     rw length-append (omega (arith, behind.put.place, length-take-le t.at t.buffer.now within)) in
     ap (take u.at) behind.put.bytes ∙ take_at (take t.at t.buffer.now ++ text) (drop (t.at + length text) t.buffer.now) u.at front
-
--- nothing stood before: that alone
-pub bytes_alone : {t u : Text} {text : List ℕ} → t.at ≡ 0 → PutBehind t text u → take u.at u.buffer.now ≡ text
-bytes_alone {t} {u} {text} none behind =
-    bytes_behind {t = t} {u = u} {text = text} (omega (arith, none)) behind ∙ ap (λ (n : ℕ). take n t.buffer.now ++ text) none

@@ -2,13 +2,16 @@
 // and numbers put behind a text of fixed capacity. An internal crate. Precondition: room.
 #![tactic(auto)]
 
-ghost use Rattle.std.specs.Prelude.{◌≡◌, ◌∷◌, [], ◌++◌, ◌+◌, ◌*◌, ◌<◌, ◌≤◌, length, take, IsAscii};
-ghost use Rattle.arrayvec.specs.ArrayString.{array_string_len};
+ghost use Rattle.std.specs.Prelude.{◌≡◌, ◌∷◌, [], ◌++◌, ◌+◌, ◌*◌, ◌<◌, ◌≤◌, length, take};
 ghost use Rattle.text.specs.Text.{ascii, decimal, hexadecimal};
 ghost use Rattle.text.specs.Text.{digit as digitOf};
 ghost use Rattle.text.specs.Put.{RoomBehind, PutBehind};
 
-use arrayvec::ArrayString;
+mod fixed;
+#[cfg(test)]
+mod tests;
+
+pub use fixed::{put_decimal, put_hexadecimal};
 use numbers::put_bytes;
 
 // A lent buffer, of any length, and the place behind what was put into it so far. Whoever lends a buffer
@@ -99,44 +102,3 @@ pub fn put_hexadecimal_lent(text: &mut Text, bytes: &[u8])
         put_byte(text, digit(*byte % 16));
     }
 }
-
-// ---- behind a text of fixed capacity
-
-// Puts bytes that are ASCII.
-pub fn put_ascii<const CAP: usize>(text: &mut ArrayString<CAP>, bytes: &[u8])
-    requires { IsAscii bytes.now × (array_string_len text.old + length bytes.now ≤ CAP) }
-    ensures { text.new.bytes ≡ text.old.bytes ++ bytes.now }
-{
-    text.push_str(str::from_utf8(bytes).unwrap());
-}
-
-// Puts a number in decimal.
-pub fn put_decimal<const CAP: usize>(text: &mut ArrayString<CAP>, number: u64)
-    requires { array_string_len text.old + 20 ≤ CAP }
-    ensures bytes { text.new.bytes ≡ text.old.bytes ++ decimal number }
-    ensures short { array_string_len text.new ≤ array_string_len text.old + 20 }
-{
-    let mut digits = Text {
-        buffer: &mut [0u8; 20],
-        at: 0,
-    };
-    put_decimal_lent(&mut digits, number);
-    put_ascii(text, digits.as_bytes());
-}
-
-// Puts bytes in hexadecimal.
-pub fn put_hexadecimal<const CAP: usize>(text: &mut ArrayString<CAP>, bytes: &[u8])
-    requires { array_string_len text.old + 2 * length bytes.now ≤ CAP }
-    ensures bytes { text.new.bytes ≡ text.old.bytes ++ hexadecimal bytes.now }
-    ensures digits { array_string_len text.new ≡ array_string_len text.old + 2 * length bytes.now }
-{
-    let mut digits = Text {
-        buffer: &mut [0u8; CAP],
-        at: 0,
-    };
-    put_hexadecimal_lent(&mut digits, bytes);
-    put_ascii(text, digits.as_bytes());
-}
-
-#[cfg(test)]
-mod tests;

@@ -1,5 +1,6 @@
 // What is put behind a text of fixed capacity.
 use super::*;
+use arrayvec::ArrayString;
 
 #[test]
 fn numbers_behind_a_text_of_fixed_capacity(rt: HostRuntime) {
@@ -7,6 +8,5 @@ fn numbers_behind_a_text_of_fixed_capacity(rt: HostRuntime) {
     put_decimal(&mut text, 0);
     put_decimal(&mut text, 18446744073709551615);
     put_hexadecimal(&mut text, &[0x4f, 0x0b, 0xff]);
-    put_ascii(&mut text, b"\n");
-    assert_eq!(rt; text.as_str(), "0184467440737095516154f0bff\n");
+    assert_eq!(rt; text.as_str(), "0184467440737095516154f0bff");
 }

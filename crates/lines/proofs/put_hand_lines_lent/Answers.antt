@@ -1,17 +1,13 @@
 -- `lines::put_hand_lines_lent` meets its contract: after i turns the lines of the first i log records are put. Assumes nothing.
 use Rattle.std.proofs.Common.{arith}
-use Rattle.lines.proofs.Lines.{no_lines, next_line}
-use Rattle.lines.proofs.PlainText.{IsAscii-hand_lines}
+use Rattle.lines.proofs.LinesLent.{no_lines_lent, next_line_lent}
 use Rattle.lines.proofs.put_hand_lines_lent.Goals as goal
 
 pub loop-index-init : goal.loop-index-init
-loop-index-init c = (no_lines _ _, omega arith)
+loop-index-init c = (no_lines_lent _ _, omega arith)
 
 pub loop-index-preserved : goal.loop-index-preserved
 loop-index-preserved c =
     let l = c.loop-index in
     let line = c.put_hand_line.ensures in
-    (next_line _ _ (omega (arith, c.requires)) l.invariant.0 line.bytes, omega (arith, l.invariant.1, line.short))
-
-pub returns-clause-ascii : goal.returns-clause-ascii
-returns-clause-ascii c = IsAscii-hand_lines c.args.count c.args.output.now (λ i. omega (arith, c.type_inv.output i))
+    (next_line_lent _ _ (omega (arith, c.requires)) l.invariant.0 line.bytes, omega (arith, l.invariant.1, line.short))

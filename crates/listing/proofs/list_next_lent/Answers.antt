@@ -4,7 +4,7 @@ use native.Mathlib.Omega.{arith}
 use Rattle.std.proofs.Common.{Ok, Err}
 use Rattle.parts.specs.Answers.{answer_of}
 use Rattle.text.specs.Text.{ascii}
-use Rattle.listing.proofs.Stepping.{few_handed, taken_stepped, refused_stepped, end_stepped, broken_stepped, frame_ascii, refused_ascii, end_ascii, broken_ascii}
+use Rattle.listing.proofs.Stepping.{few_handed, taken_stepped_lent, refused_stepped_lent, end_stepped_lent, broken_stepped_lent}
 use Rattle.listing.proofs.list_next_lent.Goals as goal
 
 pub put_hand_lines_lent-requires : goal.put_hand_lines_lent-requires
@@ -17,37 +17,21 @@ put_hand_lines_lent-requires c =
 pub returns-in-Ok-clause-stepped : goal.returns-in-Ok-clause-stepped
 returns-in-Ok-clause-stepped c =
     let line = c.put_answer_line.ensures in
-    taken_stepped _ _ c.args.listing (sym c.in-Frame.ensures) (answer_of (Ok c.in-Ok.accepted)) _ _ _ c.part_at.ensures.bytes
+    taken_stepped_lent _ _ c.args.listing (sym c.in-Frame.ensures) (answer_of (Ok c.in-Ok.accepted)) _ _ _ c.part_at.ensures.bytes
     c.in-Ok.ensures.promised.0 c.requires.0 c.requires.1 (rw (c.err.ensures.value, c.in-Ok.is) at line.bytes)
     line.short c.put_hand_lines_lent.ensures.bytes c.put_hand_lines_lent.ensures.short
 
 pub returns-in_default-clause-stepped : goal.returns-in_default-clause-stepped
 returns-in_default-clause-stepped c =
     let line = c.put_answer_line.ensures in
-    refused_stepped _ _ c.args.listing (sym c.in-Frame.ensures) (answer_of (Err c.in_default.field-0)) _ _ _ c.part_at.ensures.bytes
+    refused_stepped_lent _ _ c.args.listing (sym c.in-Frame.ensures) (answer_of (Err c.in_default.field-0)) _ _ _ c.part_at.ensures.bytes
     c.in_default.ensures.promised.0 c.requires.0 refl c.requires.1 (rw (c.err.ensures.value, c.in_default.is) at line.bytes)
     line.short
 
 pub returns-in-End-clause-stepped : goal.returns-in-End-clause-stepped
 unfolding ascii
-returns-in-End-clause-stepped c = end_stepped {given = c.args.listing} c.requires.0 (sym c.in-End.ensures) c.put_words.ensures
+returns-in-End-clause-stepped c = end_stepped_lent {given = c.args.listing} c.requires.0 (sym c.in-End.ensures) c.put_words.ensures
 
 pub returns-in-Broken-clause-stepped : goal.returns-in-Broken-clause-stepped
 unfolding ascii
-returns-in-Broken-clause-stepped c = broken_stepped {given = c.args.listing} c.requires.0 (sym c.in-Broken.ensures) c.put_words-in-Broken.ensures
-
-pub returns-in-Ok-clause-ascii : goal.returns-in-Ok-clause-ascii
-returns-in-Ok-clause-ascii c =
-    frame_ascii _ _ c.args.listing (sym c.in-Frame.ensures) (answer_of (Ok c.in-Ok.accepted)) _ _ _ c.part_at.ensures.bytes
-    c.in-Ok.ensures.promised.0 c.put_hand_lines_lent.ensures.ascii
-
-pub returns-in_default-clause-ascii : goal.returns-in_default-clause-ascii
-returns-in_default-clause-ascii c =
-    refused_ascii _ _ c.args.listing (sym c.in-Frame.ensures) (answer_of (Err c.in_default.field-0)) _ _ _ c.part_at.ensures.bytes
-    c.in_default.ensures.promised.0 refl
-
-pub returns-in-End-clause-ascii : goal.returns-in-End-clause-ascii
-returns-in-End-clause-ascii c = end_ascii _ _ c.args.listing (sym c.in-End.ensures)
-
-pub returns-in-Broken-clause-ascii : goal.returns-in-Broken-clause-ascii
-returns-in-Broken-clause-ascii c = broken_ascii _ _ c.args.listing (sym c.in-Broken.ensures)
+returns-in-Broken-clause-stepped c = broken_stepped_lent {given = c.args.listing} c.requires.0 (sym c.in-Broken.ensures) c.put_words-in-Broken.ensures

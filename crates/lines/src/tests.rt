@@ -2,7 +2,7 @@
 use super::*;
 use arrayvec::ArrayString;
 
-// Case 3 of document 01, and a frame that is refused.
+// A frame that is refused, one that is taken, and the log record of document 01's case 1.
 #[test]
 fn lines_behind_a_text_of_fixed_capacity(rt: HostRuntime) {
     let mut output = [0u8; 42];

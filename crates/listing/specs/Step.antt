@@ -10,7 +10,7 @@ use Rattle.text.specs.Put.{PutBehind}
 use Rattle.listing.specs.declared.Listing.{Listing}
 use Rattle.listing.specs.Listing.{State, lines_at, state_after, goes_on}
 
--- where a step leaves the listing: the panel's record, and what the struct says; Continue where it goes on, Break where it has ended
+-- where a step or a part leaves the listing: the panel's record, and what the struct says; Continue where it goes on, Break where it has ended
 pub record Reached : Type 0 where
   pub panel : Panel
   pub next : ControlFlow Listing Listing

@@ -1,4 +1,5 @@
-// A step of the listing behind a text of fixed capacity: of a bundle of one frame, which has no bytes.
+// Steps of the listing behind a text of fixed capacity: of a bundle of one frame, which has no bytes, and of
+// one of none.
 use super::*;
 use arrayvec::ArrayString;
 use slots::SLOTS;
@@ -22,12 +23,8 @@ fn a_step_behind_a_text_of_fixed_capacity(rt: HostRuntime) {
     let next = list_next(&mut state, &mut list, b"\0\0", start(), &mut text);
     assert_eq!(rt; text.as_str(), "> frame 1 1\n");
     assert_eq!(rt; next.map(|next| (next.place, next.frames)), Some((2, 1)));
-    let last = list_next(
-        &mut state,
-        &mut list,
-        b"",
-        start(),
-        &mut ArrayString::<4096>::new(),
-    );
+    let mut text = ArrayString::<4096>::new();
+    let last = list_next(&mut state, &mut list, b"", start(), &mut text);
+    assert_eq!(rt; text.as_str(), "end\n");
     assert!(rt; last.is_none());
 }

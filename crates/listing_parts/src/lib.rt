@@ -1,6 +1,6 @@
-// The listing of a bundle, part after part: a part is the lines of the steps that a lent buffer has room
-// for, which the program "list" writes, or a text of fixed capacity. An internal crate. Precondition: a
-// place in the bundle.
+// The listing of a bundle, part after part: a part is the lines of the steps that a lent buffer, or a text
+// of fixed capacity, has room for. The program "list" writes those in a lent buffer. An internal crate.
+// Precondition: a place in the bundle.
 #![tactic(auto)]
 
 ghost use Rattle.lent.specs.Record.{parts_of, record_of, SameState, SameWaiting};

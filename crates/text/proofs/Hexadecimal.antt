@@ -1,11 +1,9 @@
 -- Bytes in hexadecimal: one byte more, and two digits for each.
 use mathlib.Core.Path.{◌≡◌, refl, sym, ap}
-use mathlib.Core.Bool.{Bool, true, false, cond}
 use mathlib.Core.List.{List, [], ◌∷◌, ◌++◌, append_assoc, append-nil}
 use Prim.Native.Nat.{ℕ, ◌+◌, ◌*◌, ◌/◌, ◌%◌, ◌≤◌, ◌<◌}
 use native.Mathlib.Numerals.{add-one}
 use native.Mathlib.Omega.{arith}
-use lib.Dec.{ltb}
 use lib.ListN.{length, get_or, take, length-append}
 use lib.Seq.{take-suc}
 use Rattle.std.proofs.Common.{length-take-le}
@@ -23,15 +21,6 @@ pub length-hexadecimal : (bs : List ℕ) → length (hexadecimal bs) ≡ 2 * len
 unfolding hexadecimal
 length-hexadecimal [] = refl
 length-hexadecimal (x ∷ bs) = let rest = length-hexadecimal bs in omega (arith, rest)
-
--- a digit is ASCII
-pub digit_ascii : (d : ℕ) → d < 16 → digit d < 128
-unfolding digit
-digit_ascii d small = go (ltb d 10)
-  where
-    go : (b : Bool) → cond b (48 + d) (87 + d) < 128
-    go true = omega (arith, small)
-    go false = omega (arith, small)
 
 -- ---- behind bytes
 

@@ -17,13 +17,13 @@ pub fn put_decimal<const CAP: usize>(text: &mut ArrayString<CAP>, number: u64)
 }
 
 // The digit of a number below 16, as a character.
-#[tactic(auto, using(crate::proofs::Hexadecimal::digit_ascii))]
-fn character(number: u8) -> char
+#[tactic(auto, unfolding(crate::specs::Text::digit))]
+fn digit(number: u8) -> char
     requires { number < 16 }
     ensures value { result ≡ digitOf number }
     ensures ascii { result < 128 }
 {
-    char::from(crate::digit(number))
+    char::from_digit(u32::from(number), 16).unwrap()
 }
 
 // Puts bytes in hexadecimal.
@@ -34,7 +34,7 @@ pub fn put_hexadecimal<const CAP: usize>(text: &mut ArrayString<CAP>, bytes: &[u
     ensures digits { array_string_len text.new ≡ array_string_len text.old + 2 * length bytes.now }
 {
     for byte in bytes {
-        text.push(character(*byte / 16));
-        text.push(character(*byte % 16));
+        text.push(digit(*byte / 16));
+        text.push(digit(*byte % 16));
     }
 }

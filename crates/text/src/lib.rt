@@ -1,5 +1,5 @@
 // Text put into a lent buffer: words, decimal and hexadecimal numbers, each behind what was put before;
-// and numbers put behind a text of fixed capacity. An internal crate. Precondition: room.
+// and numbers and bytes put behind a text of fixed capacity. An internal crate. Precondition: room.
 #![tactic(auto)]
 
 ghost use Rattle.std.specs.Prelude.{◌≡◌, ◌∷◌, [], ◌++◌, ◌+◌, ◌*◌, ◌<◌, ◌≤◌, length, take};

@@ -8,7 +8,7 @@ pub push-requires-in-loop-byte : goal.push-requires-in-loop-byte
 push-requires-in-loop-byte g c =
     let l = c.loop-byte in
     let size = hexadecimal_size _ c.args.bytes.now _ l.byte-index l.invariant.0 l.invariant.1 in
-    let more = one_more _ _ _ (c.push.ensures.ascii c.character.ensures.ascii) in (
+    let more = one_more _ _ _ (c.push.ensures.ascii c.digit.ensures.ascii) in (
       search rules,
-      rw (encode_ascii c.character-in-loop-byte.result c.character-in-loop-byte.ensures.ascii) (omega (arith, size, more, c.loop-byte-test.true, c.requires)),
+      rw (encode_ascii c.digit-in-loop-byte.result c.digit-in-loop-byte.ensures.ascii) (omega (arith, size, more, c.loop-byte-test.true, c.requires)),
     )
